@@ -1,0 +1,2 @@
+-- What the definitions compute to on the figures.
+pub mod Seen

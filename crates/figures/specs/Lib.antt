@@ -1,0 +1,2 @@
+-- The figures and what is true of each.
+pub mod Figures

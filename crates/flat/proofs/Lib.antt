@@ -1,0 +1,20 @@
+-- The proofs, each file after those that it builds on.
+pub mod Basics
+pub mod Walks
+pub mod Trails
+pub mod Counts
+pub mod Splice
+pub mod Reps
+pub mod Turns
+pub mod Euler
+pub mod Alike
+pub mod Beside
+pub mod Flats
+pub mod Removes
+pub mod Cleaves
+pub mod Hangs
+pub mod Shapes
+pub mod Anyway
+pub mod Tested
+pub mod Whole
+pub mod Proved

@@ -1,0 +1,9 @@
+-- The contract of any_cleave_counts_stands is `any-cleaving-counts` of proofs/Proved.antt.
+use lib.IntN.{ℤ, negℤ}
+use Rattle.flat.specs.Whole.{equal}
+use Rattle.flat.proofs.Whole.{equal-is}
+use Rattle.flat.proofs.Proved.{any-cleaving-counts}
+use Rattle.flat.proofs.any_cleave_counts_stands.Needs as need
+
+pub returns : need.returns
+returns c = any-cleaving-counts ℤ equal negℤ equal-is

@@ -1,0 +1,10 @@
+pub mod Views
+pub mod Counted
+pub mod EdgeCount
+pub mod Meaning
+pub mod Comes
+pub mod Blank
+pub mod Lifts
+pub mod Hangs
+pub mod Cleaves
+pub mod Props

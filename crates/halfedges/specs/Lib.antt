@@ -1,0 +1,3 @@
+pub mod View
+pub mod Rows
+pub mod Nothing

@@ -1,0 +1,3 @@
+pub mod Lengths
+pub mod Marks
+pub mod Buffers

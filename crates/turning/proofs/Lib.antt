@@ -1,0 +1,4 @@
+pub mod Names
+pub mod Listed
+pub mod Tests
+pub mod Worded

@@ -20,16 +20,10 @@ use Rattle.laws.specs.Keeps.{Sound}
 use Rattle.laws.proofs.Equal.{tell}
 use Rattle.halfedges.specs.declared.halfedge.Halfedge.{Halfedge}
 use Rattle.halfedges.specs.View.{View, none, bare, key, is-name, entry-at, seen, row-of, Roomy}
-use Rattle.halfedges.specs.Rows.{turn-of, points-of, lines-in, home, Indexed, count, taken-row, used, edge-count, Core, Blank}
+use Rattle.halfedges.specs.Rows.{turn-of, points-of, lines-in, home, Unlinked, Indexed, count, taken-row, used, same-place, row-in, slot-count, edge-count, Core, Blank}
 use Rattle.halfedges.specs.Nothing.{nothing-lines, nothing-sound}
+use Rattle.halfedges.proofs.Counted.{count-none, off-zero}
 use Rattle.halfedges.proofs.Views.{entry-in, entry-out, zero-row, row-is}
-
-count-none : (n : ℕ) (p : ℕ → Bool) → ((i : ℕ) → 1 ≤ i → i ≤ n → p i ≡ false) → count n p ≡ 0
-count-none zero p e = refl
-count-none (suc n) p e =
-    let a = ap indicator (e (suc n) (omega arith) (omega arith)) in
-    let b = count-none n p (λ i l u. e i l (omega arith)) in
-    omega arith
 
 used-none : (cap : ℕ) (v : View) → ((s : ℕ) → 1 ≤ s → s ≤ cap → v .row s .name ≡ pos 0) → used cap v ≡ 0
 unfolding used
@@ -90,3 +84,14 @@ module _ (rs : List Halfedge) (all : Blank rs) (long : slots ≤ length rs) wher
 
   pub blank-edges : edge-count max-edge (turn-of (seen rs)) ≡ 0
   blank-edges = edges-zero max-edge (turn-of (seen rs)) none-held
+
+  pub blank-slots : (i : ℕ) (h : ℤ) → (h ≡ pos 0 → ⊥) → slot-count slots (seen rs) i h ≡ 0
+  unfolding slot-count
+  blank-slots i h some = count-none slots (row-in (seen rs) i h) (λ s l u. ap (λ k. same-place (seen rs .row s .strip) k i h) (nameless s l u) ∙ off-zero (seen rs .row s .strip) i h some)
+
+  pub blank-unlinked : Unlinked slots (seen rs)
+  blank-unlinked s l u _ =
+      let e : s ≡ suc (s - 1) = omega arith in (
+        ap (λ i. seen rs .row i .follower) e ∙ ap (λ r. r .follower) (row-is max-edge slots rs (s - 1)) ∙ ap (λ r. r .follower) (all (s - 1) (omega arith)),
+        ap (λ i. seen rs .row i .predecessor) e ∙ ap (λ r. r .predecessor) (row-is max-edge slots rs (s - 1)) ∙ ap (λ r. r .predecessor) (all (s - 1) (omega arith)),
+      )

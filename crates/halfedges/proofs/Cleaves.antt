@@ -1,5 +1,5 @@
 -- The rows once an edge is cleft, in four changes of single names. Assumes nothing.
-use mathlib.Core.Path.{_≡_, refl, sym, ap, subst, _∙_}
+use mathlib.Core.Path.{_≡_, refl, sym, ap, ap₂, subst, _∙_}
 use mathlib.Core.Bool.{Bool, true, false}
 use mathlib.Core.List.{List}
 use Prim.Native.Nat.{ℕ, suc, _+_, _*_, _≤_, _<_}
@@ -7,6 +7,9 @@ use native.Mathlib.Omega.{arith}
 use lib.IntN.{ℤ, pos, negℤ}
 use Rattle.std.specs.declared.option.Option.{Option}
 use Rattle.std.specs.declared.option.Option.the-variants.{Some, None}
+use Rattle.std.proofs.shelf.Tests.{cond-false, both-ways}
+use Rattle.flat.specs.Orbits.{indicator}
+use Rattle.flat.specs.Whole.{equal}
 use Rattle.turning.specs.Limits.{max-edge, slots}
 use Rattle.turning.specs.Turn.{Turn}
 use Rattle.chart.specs.declared.point.Point.{Point}
@@ -14,14 +17,16 @@ use Rattle.chart.specs.Changes.{at, put-after, alone, drawn, cleft}
 use Rattle.chart.specs.Linework.{Linework}
 use Rattle.laws.specs.Keeps.{Sound}
 use Rattle.laws.specs.Rotations.{Rotation, Fresh, Cuts}
+use Rattle.laws.proofs.Equal.{tell}
+use Rattle.laws.proofs.Edges.{neg-same}
 use Rattle.laws.proofs.Cleft.{step₁, step₂, step₃, step₄, cleave-rotation₀, cleave-held, cleave-fresh₁, cleave-rotation₁, cleave-held₁, cleave-rotation₂, cleave-fresh₃, cleave-rotation₃, cleave-held₃, cleave-fresh₄, cleave-turn, cleave-points, cleave-sound}
 use Rattle.halfedges.specs.declared.halfedge.Halfedge.{Halfedge}
 use Rattle.halfedges.specs.View.{View, seen, Roomy}
-use Rattle.halfedges.specs.Rows.{turn-of, points-of, lines-in, Indexed, Brought, unhooked, used, Core}
-use Rattle.halfedges.proofs.Meaning.{unhooked-turn, unhooked-points, unhooked-indexed, unhooked-used}
+use Rattle.halfedges.specs.Rows.{turn-of, points-of, strips-of, lines-in, Unlinked, Indexed, Brought, unhooked, used, same-place, slot-count, Core}
+use Rattle.halfedges.proofs.Meaning.{unhooked-turn, unhooked-points, unhooked-strips, unhooked-indexed, unhooked-used, unhooked-counted, unhooked-unlinked}
 use Rattle.halfedges.proofs.Views.{zero-row}
 
-module _ (rs : List Halfedge) (core : Core max-edge slots rs) (e f : ℕ) (p q : Point) (m : Cuts max-edge (lines-in (seen rs)) e f p q) (room : used slots (seen rs) + 2 ≤ slots) where
+module _ (rs : List Halfedge) (core : Core max-edge slots rs) (e f : ℕ) (p q : Point) (m : Cuts max-edge (lines-in (seen rs)) e f p q) (room : used slots (seen rs) + 2 ≤ slots) (west east : ℕ) where
   abbrev l : Linework
   l = lines-in (seen rs)
 
@@ -46,7 +51,7 @@ module _ (rs : List Halfedge) (core : Core max-edge slots rs) (e f : ℕ) (p q :
       less : (u s : ℕ) → u + 2 ≤ s → u < s
       less u s b = omega arith
 
-  module _ (rs₁ : List Halfedge) (first : Brought slots (negℤ (pos f)) (Some (negℤ (pos e))) q (seen rs) (seen rs₁)) where
+  module _ (rs₁ : List Halfedge) (first : Brought slots east (negℤ (pos f)) (Some (negℤ (pos e))) q (seen rs) (seen rs₁)) where
     pub rotation₁ : Rotation max-edge (turn-of (seen rs₁))
     rotation₁ = subst (Rotation max-edge) (sym (first .turn)) (cleave-rotation₁ max-edge l (core .sound) e f p q m)
 
@@ -78,7 +83,7 @@ module _ (rs : List Halfedge) (core : Core max-edge slots rs) (e f : ℕ) (p q :
           less : (u v w s : ℕ) → v ≡ suc u → suc w ≡ v → u < s → w < s
           less u v w s a b k = omega arith
 
-      module _ (rs₃ : List Halfedge) (third : Brought slots (negℤ (pos e)) None p (seen rs₂) (seen rs₃)) where
+      module _ (rs₃ : List Halfedge) (third : Brought slots west (negℤ (pos e)) None p (seen rs₂) (seen rs₃)) where
         turn₃ : turn-of (seen rs₃) ≡ step₃ E F (turn-of (seen rs))
         turn₃ = third .turn ∙ ap (alone E) turn₂
 
@@ -97,7 +102,7 @@ module _ (rs : List Halfedge) (core : Core max-edge slots rs) (e f : ℕ) (p q :
             less : (u v w x s : ℕ) → v ≡ suc u → suc w ≡ v → x ≡ suc w → u + 2 ≤ s → x < s
             less u v w x s a b k j = omega arith
 
-        module _ (rs₄ : List Halfedge) (roomy : Roomy max-edge slots rs₄) (fourth : Brought slots (pos f) (Some (negℤ (pos e))) p (seen rs₃) (seen rs₄)) where
+        module _ (rs₄ : List Halfedge) (roomy : Roomy max-edge slots rs₄) (fourth : Brought slots west (pos f) (Some (negℤ (pos e))) p (seen rs₃) (seen rs₄)) where
           turn₄ : turn-of (seen rs₄) ≡ cleft e f p l .turn
           turn₄ = fourth .turn ∙ ap (put-after E (pos f)) turn₃ ∙ cleave-turn max-edge l (core .sound) e f p q m
 
@@ -119,3 +124,40 @@ module _ (rs : List Halfedge) (core : Core max-edge slots rs) (e f : ℕ) (p q :
             indexed = fourth .indexed;
             sound = subst (Sound max-edge) (sym cleave-lines) (cleave-sound max-edge l (core .sound) e f p q m);
           }
+
+          pub cleave-unlinked : Unlinked slots (seen rs) → Unlinked slots (seen rs₄)
+          cleave-unlinked o =
+              fourth .unlinked (third .unlinked (subst (Unlinked slots) (sym second)
+              (unhooked-unlinked slots (seen rs₁) (first .indexed) (zero-row max-edge slots rs₁) max-edge rotation₁ E held₁ (first .unlinked o))))
+
+          strips₂ : strips-of (seen rs₂) ≡ at E 0 (at F east (strips-of (seen rs)))
+          strips₂ = ap strips-of second ∙ unhooked-strips slots (seen rs₁) (first .indexed) (zero-row max-edge slots rs₁) max-edge rotation₁ E held₁ ∙ ap (at E 0) (first .strips)
+
+          twice : (s t : ℕ) (g : ℤ → ℕ) → at E s (at E t g) ≡ at E s g
+          twice s t g = λ i h. at-once h i
+            where
+              at-once : (h : ℤ) → at E s (at E t g) h ≡ at E s g h
+              at-once h = grind (arith, tell h E)
+
+          pub cleave-strips : strips-of (seen rs₄) ≡ at (pos f) west (at (negℤ (pos e)) west (at (negℤ (pos f)) east (strips-of (seen rs))))
+          cleave-strips = fourth .strips ∙ ap (at (pos f) west) (third .strips ∙ ap (at E west) strips₂ ∙ twice west 0 (at F east (strips-of (seen rs))))
+
+          apart : negℤ (pos e) ≡ negℤ (pos f) → ⊥
+          apart z = both-ways _ (m .new) (ap (turn-of (seen rs) .held) (sym (neg-same e f z)) ∙ m .here)
+
+          other : strips-of (seen rs₁) E ≡ strips-of (seen rs) E
+          other =
+              let off : equal E F ≡ false = grind (arith, tell E F, apart) in
+              ap (λ g. g E) (first .strips) ∙ cond-false _ _ _ off
+
+          pub cleave-counted : (i : ℕ) (h : ℤ) → (h ≡ pos 0 → ⊥)
+              → indicator (same-place (strips-of (seen rs) (negℤ (pos e))) (negℤ (pos e)) i h) + slot-count slots (seen rs₄) i h
+              ≡ indicator (same-place west (pos f) i h) + (indicator (same-place west (negℤ (pos e)) i h) + (indicator (same-place east (negℤ (pos f)) i h) + slot-count slots (seen rs) i h))
+          cleave-counted i h some =
+              sum (slot-count slots (seen rs) i h) (slot-count slots (seen rs₁) i h) (slot-count slots (seen rs₂) i h) (slot-count slots (seen rs₃) i h) (slot-count slots (seen rs₄) i h) _ _ _ _ (first .counted i h some)
+              (unhooked-counted slots (seen rs₁) (first .indexed) (zero-row max-edge slots rs₁) max-edge rotation₁ E held₁ i h some
+              ∙ ap₂ (λ s v. indicator (same-place s E i h) + slot-count slots v i h) other (sym second))
+              (third .counted i h some) (fourth .counted i h some)
+            where
+              sum : (u v w x y p q r t : ℕ) → v ≡ p + u → v ≡ q + w → x ≡ r + w → y ≡ t + x → q + y ≡ t + (r + (p + u))
+              sum u v w x y p q r t a b k j = omega arith

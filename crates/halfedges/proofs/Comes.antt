@@ -2,7 +2,7 @@
 use mathlib.Core.Path.{_≡_, refl, sym, ap, subst, _∙_}
 use mathlib.Core.Bool.{Bool, true, false, cond, _&&_, not}
 use mathlib.Core.Logic.{_⊎_, inl, inr}
-use Prim.Native.Nat.{ℕ, zero, suc, _≤_, _<_}
+use Prim.Native.Nat.{ℕ, zero, suc, _+_, _≤_, _<_}
 use native.Mathlib.Omega.{arith}
 use lib.Dec.{eqb, leb}
 use lib.IntN.{ℤ, pos}
@@ -10,6 +10,7 @@ use Rattle.std.specs.declared.option.Option.{Option}
 use Rattle.std.specs.declared.option.Option.the-variants.{Some, None}
 use Rattle.std.proofs.shelf.Tests.{cond-true, cond-false, both-ways, leb-true, le-leb}
 use Rattle.std.proofs.shelf.Ways.{eqb-tells, leb-tells}
+use Rattle.flat.specs.Orbits.{indicator}
 use Rattle.flat.specs.Whole.{equal}
 use Rattle.turning.specs.Turn.{Turn}
 use Rattle.chart.specs.declared.point.Point.{Point}
@@ -18,9 +19,9 @@ use Rattle.laws.specs.Rotations.{Rotation, Fresh}
 use Rattle.laws.proofs.Equal.{tell, Tells}
 use Rattle.halfedges.specs.declared.halfedge.Halfedge.{Halfedge}
 use Rattle.halfedges.specs.View.{View, none, row-of, written, noted, led, trailed, with-follower, with-predecessor}
-use Rattle.halfedges.specs.Rows.{turn-of, row-point, points-of, home, Indexed, fresh, settled, hooked, Corner-held, taken-row, used}
-use Rattle.halfedges.proofs.Counted.{count-more}
-use Rattle.halfedges.proofs.Meaning.{written-rows, written-indexed}
+use Rattle.halfedges.specs.Rows.{turn-of, row-point, points-of, strips-of, home, Unlinked, Indexed, fresh, settled, hooked, Corner-held, taken-row, used, same-place, slot-count}
+use Rattle.halfedges.proofs.Counted.{count-more, slot-gain}
+use Rattle.halfedges.proofs.Meaning.{written-rows, written-indexed, written-unlinked, home-not}
 
 -- ---- k comes in at a free slot
 module _ (cap : ℕ) (v : View) (x : Indexed cap v) (s : ℕ) (low : 1 ≤ s) (high : s ≤ cap) (free : v .row s .name ≡ pos 0) (some-k : (h : ℤ) → turn-of v .held h ≡ true → h ≡ pos 0 → ⊥)
@@ -174,3 +175,44 @@ module _ (cap : ℕ) (v : View) (x : Indexed cap v) (n : ℕ) (w : Rotation n (t
       (grind (arith, free, tell (pos 0) (pos 0)))
       (grind (arith, eqb-tells s s, named-k))
       (λ i d. grind (arith, eqb-tells i s, eqb-tells i (v .entry (row-of v c .follower)), eqb-tells i (v .entry c), eqb-tells (v .entry (row-of v c .follower)) (v .entry c)))
+
+  pub hooked-strips : (c : Option ℤ) → Held c → strips-of (hooked s strip k c p v) ≡ at k strip (strips-of v)
+  hooked-strips None o = λ i g. one-strip g i
+    where
+      one-strip : (g : ℤ) → strips-of one g ≡ at k strip (strips-of v) g
+      one-strip g = grind (arith, tell g k, one-rows g)
+  hooked-strips (Some c) o = λ i g. two-strip g i
+    where
+      two-strip : (g : ℤ) → strips-of (two c o) g ≡ at k strip (strips-of v) g
+      two-strip g = grind (arith, tell g k, tell g c, tell g (row-of v c .follower), two-rows c o g, rows₂ c o g, rows₁ c o g, rows₁ c o (row-of v c .follower))
+
+  -- one slot more of k, in its strip
+  pub hooked-counted : (c : Option ℤ) → Held c → (i : ℕ) (g : ℤ) → (g ≡ pos 0 → ⊥) → slot-count cap (hooked s strip k c p v) i g ≡ indicator (same-place strip k i g) + slot-count cap v i g
+  hooked-counted None o i g some-g =
+      slot-gain cap v (hooked s strip k None p v) s low high
+      (λ j d. (grind (arith, eqb-tells j s), grind (arith, eqb-tells j s)))
+      free i g some-g
+      ∙ ap (λ r. indicator (same-place (r .strip) (r .name) i g) + slot-count cap v i g) (cond-true (eqb s s) (fresh strip k k k p) (v .row s) (grind (arith, eqb-tells s s)))
+  hooked-counted (Some c) o i g some-g =
+      slot-gain cap v (hooked s strip k (Some c) p v) s low high
+      (λ j d. (
+        grind (arith, eqb-tells j s, eqb-tells j (v .entry (row-of v c .follower)), eqb-tells j (v .entry c), eqb-tells (v .entry (row-of v c .follower)) (v .entry c)),
+        grind (arith, eqb-tells j s, eqb-tells j (v .entry (row-of v c .follower)), eqb-tells j (v .entry c), eqb-tells (v .entry (row-of v c .follower)) (v .entry c)),
+      ))
+      free i g some-g
+      ∙ ap (λ r. indicator (same-place (r .strip) (r .name) i g) + slot-count cap v i g) (cond-true (eqb s s) (new-row c o) (v₂ c o .row s) (grind (arith, eqb-tells s s)))
+
+  pub hooked-unlinked : (c : Option ℤ) → Held c → Unlinked cap v → Unlinked cap (hooked s strip k c p v)
+  hooked-unlinked None o u = written-unlinked cap v u s (fresh strip k k k p) (home-not (fresh strip k k k p) (fr .no-zero) (fr .no-zero))
+  hooked-unlinked (Some c) o u =
+      let a = row-of v c .follower in
+      let next = corner-next c o in
+      let index = corner-indexed c o in
+      written-unlinked cap (v₂ c o)
+      (written-unlinked cap (v₁ c o)
+      (written-unlinked cap v u (v .entry c) (with-follower k (row-of v c)) (home-not (with-follower k (row-of v c)) (λ z. some c o (sym (x .named c o) ∙ z)) (fr .no-zero)))
+      (v .entry a) (with-predecessor k (row-of (v₁ c o) a)) (home-not (with-predecessor k (row-of (v₁ c o) a)) (λ z. some a next (sym (index .named a next) ∙ z)) leads))
+      s (new-row c o) (home-not (new-row c o) (fr .no-zero) (some a next))
+    where
+      leads : row-of (led c k v) (row-of v c .follower) .follower ≡ pos 0 → ⊥
+      leads z = grind (arith, tell (row-of v c .follower) c, rows₁ c o (row-of v c .follower), z, fr .no-zero, some (row-of v (row-of v c .follower) .follower) (w .ahead (row-of v c .follower) (w .ahead c o)))

@@ -7,6 +7,7 @@ use native.Mathlib.Omega.{arith}
 use lib.IntN.{ℤ, pos, negℤ}
 use Rattle.std.specs.declared.option.Option.{Option}
 use Rattle.std.specs.declared.option.Option.the-variants.{Some, None}
+use Rattle.flat.specs.Orbits.{indicator}
 use Rattle.turning.specs.Limits.{max-edge, slots}
 use Rattle.chart.specs.declared.point.Point.{Point}
 use Rattle.chart.specs.Changes.{at, put}
@@ -16,7 +17,7 @@ use Rattle.laws.specs.Rotations.{Rotation, Fresh, Corner, Ends}
 use Rattle.laws.proofs.Hung.{hang-rotation₀, hang-rotation₁, hang-fresh₀, hang-fresh₁, hang-end₁, hang-sound}
 use Rattle.halfedges.specs.declared.halfedge.Halfedge.{Halfedge}
 use Rattle.halfedges.specs.View.{View, seen, Roomy}
-use Rattle.halfedges.specs.Rows.{turn-of, points-of, lines-in, Corner-held, Brought, used, Core}
+use Rattle.halfedges.specs.Rows.{turn-of, points-of, strips-of, lines-in, Unlinked, Corner-held, Brought, used, same-place, slot-count, Core}
 
 pub corner-held : (v : View) (c : Option ℤ) (p : Point) → Corner (turn-of v) (points-of v) c p → Corner-held v c
 corner-held v None p o = tt
@@ -41,7 +42,7 @@ module _ (rs : List Halfedge) (core : Core max-edge slots rs) (e : ℕ) (p q : P
   pub corner₀ : Corner-held (seen rs) c
   corner₀ = corner-held (seen rs) c p (m .start)
 
-  module _ (rs₁ : List Halfedge) (first : Brought slots (pos e) c p (seen rs) (seen rs₁)) where
+  module _ (west : ℕ) (rs₁ : List Halfedge) (first : Brought slots west (pos e) c p (seen rs) (seen rs₁)) where
     pub rotation₁ : Rotation max-edge (turn-of (seen rs₁))
     rotation₁ = subst (Rotation max-edge) (sym (first .turn)) (hang-rotation₁ max-edge l (core .sound) e p q c d m)
 
@@ -57,7 +58,7 @@ module _ (rs : List Halfedge) (core : Core max-edge slots rs) (e : ℕ) (p q : P
         less : (u v s : ℕ) → v ≡ suc u → u + 2 ≤ s → v < s
         less u v s a b = omega arith
 
-    module _ (rs₂ : List Halfedge) (roomy : Roomy max-edge slots rs₂) (second : Brought slots (negℤ (pos e)) d q (seen rs₁) (seen rs₂)) where
+    module _ (east : ℕ) (rs₂ : List Halfedge) (roomy : Roomy max-edge slots rs₂) (second : Brought slots east (negℤ (pos e)) d q (seen rs₁) (seen rs₂)) where
       turn₂ : turn-of (seen rs₂) ≡ put d (negℤ (pos e)) (put c (pos e) (turn-of (seen rs)))
       turn₂ = second .turn ∙ ap (put d (negℤ (pos e))) (first .turn)
 
@@ -79,3 +80,12 @@ module _ (rs : List Halfedge) (core : Core max-edge slots rs) (e : ℕ) (p q : P
         indexed = second .indexed;
         sound = subst (Sound max-edge) (sym hang-lines) (hang-sound max-edge l (core .sound) e p q c d m);
       }
+
+      pub hang-strips : strips-of (seen rs₂) ≡ at (negℤ (pos e)) east (at (pos e) west (strips-of (seen rs)))
+      hang-strips = second .strips ∙ ap (at (negℤ (pos e)) east) (first .strips)
+
+      pub hang-counted : (i : ℕ) (h : ℤ) → (h ≡ pos 0 → ⊥) → slot-count slots (seen rs₂) i h ≡ indicator (same-place east (negℤ (pos e)) i h) + (indicator (same-place west (pos e) i h) + slot-count slots (seen rs) i h)
+      hang-counted i h some = second .counted i h some ∙ ap (λ k. indicator (same-place east (negℤ (pos e)) i h) + k) (first .counted i h some)
+
+      pub hang-unlinked : Unlinked slots (seen rs) → Unlinked slots (seen rs₂)
+      hang-unlinked o = second .unlinked (first .unlinked o)

@@ -3,8 +3,10 @@ pub mod Counted
 pub mod EdgeCount
 pub mod Meaning
 pub mod Comes
+pub mod Beside
 pub mod Blank
 pub mod Lifts
 pub mod Hangs
 pub mod Cleaves
 pub mod Props
+pub mod Copying

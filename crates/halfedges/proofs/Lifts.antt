@@ -7,15 +7,19 @@ use native.Mathlib.Omega.{arith}
 use lib.IntN.{ℤ, pos, negℤ}
 use Rattle.std.specs.declared.option.Option.{Option}
 use Rattle.std.specs.declared.option.Option.the-variants.{Some, None}
+use Rattle.std.proofs.shelf.Tests.{cond-false}
+use Rattle.flat.specs.Orbits.{indicator}
+use Rattle.flat.specs.Whole.{equal}
 use Rattle.turning.specs.Limits.{max-edge, slots}
 use Rattle.chart.specs.Changes.{at, drawn, lifted}
 use Rattle.laws.specs.Keeps.{Sound}
 use Rattle.laws.specs.Rotations.{Rotation}
-use Rattle.laws.proofs.Edges.{rotation-of, lift-rotation₁, lift-here₁, lift-sound}
+use Rattle.laws.proofs.Equal.{tell}
+use Rattle.laws.proofs.Edges.{rotation-of, held-some, neg-apart, lift-rotation₁, lift-here₁, lift-sound}
 use Rattle.halfedges.specs.declared.halfedge.Halfedge.{Halfedge}
 use Rattle.halfedges.specs.View.{View, seen, Roomy}
-use Rattle.halfedges.specs.Rows.{turn-of, points-of, lines-in, Indexed, unhooked, used, Core}
-use Rattle.halfedges.proofs.Meaning.{unhooked-turn, unhooked-points, unhooked-indexed, unhooked-used}
+use Rattle.halfedges.specs.Rows.{turn-of, points-of, strips-of, lines-in, Unlinked, Indexed, unhooked, used, same-place, slot-count, Core}
+use Rattle.halfedges.proofs.Meaning.{unhooked-turn, unhooked-points, unhooked-strips, unhooked-indexed, unhooked-used, unhooked-counted, unhooked-unlinked}
 use Rattle.halfedges.proofs.Views.{zero-row}
 
 module _ (rs : List Halfedge) (core : Core max-edge slots rs) (e : ℕ) (here : turn-of (seen rs) .held (pos e) ≡ true) where
@@ -66,3 +70,28 @@ module _ (rs : List Halfedge) (core : Core max-edge slots rs) (e : ℕ) (here : 
         indexed = subst (Indexed slots) (sym second) (unhooked-indexed slots (seen rs₁) indexed₁ (zero-row max-edge slots rs₁) max-edge rotation₁ (negℤ (pos e)) here₁);
         sound = subst (Sound max-edge) (sym lift-lines) (lift-sound max-edge (lines-in (seen rs)) (core .sound) e here);
       }
+
+      strips₁ : strips-of (seen rs₁) ≡ at (pos e) 0 (strips-of (seen rs))
+      strips₁ = ap strips-of first ∙ unhooked-strips slots (seen rs) (core .indexed) (zero-row max-edge slots rs) max-edge rotation₀ (pos e) here
+
+      pub lift-strips : strips-of (seen rs₂) ≡ at (negℤ (pos e)) 0 (at (pos e) 0 (strips-of (seen rs)))
+      lift-strips = ap strips-of second ∙ unhooked-strips slots (seen rs₁) indexed₁ (zero-row max-edge slots rs₁) max-edge rotation₁ (negℤ (pos e)) here₁ ∙ ap (at (negℤ (pos e)) 0) strips₁
+
+      other : strips-of (seen rs₁) (negℤ (pos e)) ≡ strips-of (seen rs) (negℤ (pos e))
+      other =
+          let off : equal (negℤ (pos e)) (pos e) ≡ false = grind (arith, tell (negℤ (pos e)) (pos e), neg-apart e e (held-some max-edge (turn-of (seen rs)) rotation₀ e here)) in
+          ap (λ f. f (negℤ (pos e))) strips₁ ∙ cond-false _ _ _ off
+
+      pub lift-counted : (i : ℕ) (h : ℤ) → (h ≡ pos 0 → ⊥) → slot-count slots (seen rs) i h ≡ indicator (same-place (strips-of (seen rs) (pos e)) (pos e) i h) + (indicator (same-place (strips-of (seen rs) (negℤ (pos e))) (negℤ (pos e)) i h) + slot-count slots (seen rs₂) i h)
+      lift-counted i h some =
+          unhooked-counted slots (seen rs) (core .indexed) (zero-row max-edge slots rs) max-edge rotation₀ (pos e) here i h some
+          ∙ ap (λ k. indicator (same-place (strips-of (seen rs) (pos e)) (pos e) i h) + k)
+          (ap (λ v. slot-count slots v i h) (sym first)
+          ∙ unhooked-counted slots (seen rs₁) indexed₁ (zero-row max-edge slots rs₁) max-edge rotation₁ (negℤ (pos e)) here₁ i h some
+          ∙ ap₂ (λ s v. indicator (same-place s (negℤ (pos e)) i h) + slot-count slots v i h) other (sym second))
+
+      pub lift-unlinked : Unlinked slots (seen rs) → Unlinked slots (seen rs₂)
+      lift-unlinked o =
+          subst (Unlinked slots) (sym second)
+          (unhooked-unlinked slots (seen rs₁) indexed₁ (zero-row max-edge slots rs₁) max-edge rotation₁ (negℤ (pos e)) here₁
+          (subst (Unlinked slots) (sym first) (unhooked-unlinked slots (seen rs) (core .indexed) (zero-row max-edge slots rs) max-edge rotation₀ (pos e) here o)))

@@ -2,7 +2,7 @@
 use mathlib.Core.Path.{_≡_, refl, sym, ap, subst, _∙_}
 use mathlib.Core.Bool.{Bool, true, false, cond, _&&_, not}
 use mathlib.Core.Logic.{_⊎_, inl, inr}
-use Prim.Native.Nat.{ℕ, zero, suc, _≤_, _<_}
+use Prim.Native.Nat.{ℕ, zero, suc, _+_, _≤_, _<_}
 use native.Mathlib.Omega.{arith}
 use lib.Dec.{eqb, leb}
 use lib.IntN.{ℤ, pos}
@@ -10,6 +10,7 @@ use Rattle.std.specs.declared.option.Option.{Option}
 use Rattle.std.specs.declared.option.Option.the-variants.{Some, None}
 use Rattle.std.proofs.shelf.Tests.{cond-true, cond-false, both-ways, leb-true, le-leb}
 use Rattle.std.proofs.shelf.Ways.{eqb-tells, leb-tells}
+use Rattle.flat.specs.Orbits.{indicator}
 use Rattle.flat.specs.Whole.{equal}
 use Rattle.turning.specs.Turn.{Turn}
 use Rattle.chart.specs.declared.point.Point.{Point}
@@ -18,8 +19,8 @@ use Rattle.laws.specs.Rotations.{Rotation}
 use Rattle.laws.proofs.Equal.{tell, Tells}
 use Rattle.halfedges.specs.declared.halfedge.Halfedge.{Halfedge}
 use Rattle.halfedges.specs.View.{View, none, row-of, written, noted, led, trailed, with-follower, with-predecessor}
-use Rattle.halfedges.specs.Rows.{turn-of, row-point, points-of, home, Indexed, unhooked, taken-row, used}
-use Rattle.halfedges.proofs.Counted.{count-more}
+use Rattle.halfedges.specs.Rows.{turn-of, row-point, points-of, strips-of, home, Unlinked, Indexed, unhooked, taken-row, used, same-place, row-in, slot-count}
+use Rattle.halfedges.proofs.Counted.{count-more, slot-loss}
 
 pub held-slot : (v : View) (h : ℤ) → turn-of v .held h ≡ true → 1 ≤ v .entry h
 held-slot v h e = grind (arith, eqb-tells (v .entry h) 0)
@@ -36,6 +37,18 @@ module _ (cap : ℕ) (v : View) (x : Indexed cap v) (b : ℤ) (here : turn-of v 
     named = λ h e. ap (λ y. y .name) (written-rows h) ∙ grind (arith, tell h b, x .named h e, name);
     found = λ s l u e. grind (arith, eqb-tells s (v .entry b), name, x .found s l u);
   }
+
+-- a row that is home, or has no links, leaves the rest as it was
+pub written-unlinked : (cap : ℕ) (v : View) → Unlinked cap v → (s : ℕ) (r : Halfedge) → (home r ≡ false → (r .follower ≡ pos 0) × (r .predecessor ≡ pos 0)) → Unlinked cap (written s r v)
+written-unlinked cap v o s r bare i l u = go (eqb-tells i s)
+  where
+    go : ((eqb i s ≡ true) × (i ≡ s)) ⊎ ((eqb i s ≡ false) × (i ≡ s → ⊥)) → home (cond (eqb i s) r (v .row i)) ≡ false → (cond (eqb i s) r (v .row i) .follower ≡ pos 0) × (cond (eqb i s) r (v .row i) .predecessor ≡ pos 0)
+    go (inl e) = subst (λ y. home y ≡ false → (y .follower ≡ pos 0) × (y .predecessor ≡ pos 0)) (sym (cond-true (eqb i s) r (v .row i) (e .0))) bare
+    go (inr e) = subst (λ y. home y ≡ false → (y .follower ≡ pos 0) × (y .predecessor ≡ pos 0)) (sym (cond-false (eqb i s) r (v .row i) (e .0))) (o i l u)
+
+-- a row with a name and a follower is home
+pub home-not : (r : Halfedge) → (r .name ≡ pos 0 → ⊥) → (r .follower ≡ pos 0 → ⊥) → home r ≡ false → (r .follower ≡ pos 0) × (r .predecessor ≡ pos 0)
+home-not r name follower out = absurd (grind (arith, tell (r .name) (pos 0), tell (r .follower) (pos 0), name, follower, out))
 
 -- ---- h goes out
 module _ (cap : ℕ) (v : View) (x : Indexed cap v) (zero-row : v .row 0 ≡ none) (n : ℕ) (w : Rotation n (turn-of v)) (h : ℤ) (here : turn-of v .held h ≡ true) where
@@ -125,3 +138,34 @@ module _ (cap : ℕ) (v : View) (x : Indexed cap v) (zero-row : v .row 0 ≡ non
       (grind (arith, eqb-tells (v .entry h) (v .entry h), tell (pos 0) (pos 0)))
       (grind (arith, x .named h here, tell h (pos 0), w .no-zero, here))
       (λ i d. grind (arith, eqb-tells i (v .entry h), eqb-tells i (v .entry a), eqb-tells i (v .entry b), eqb-tells (v .entry a) (v .entry b))))
+
+  pub unhooked-strips : strips-of (unhooked h v) ≡ at h 0 (strips-of v)
+  unhooked-strips = λ i g. strip g i
+    where
+      strip : (g : ℤ) → strips-of (unhooked h v) g ≡ at h 0 (strips-of v) g
+      strip g = grind (arith, tell g h, tell g a, tell g b, out-here, out-other g, rows₂ g, rows₁ g, rows₁ a)
+
+  -- its slot is free
+  pub unhooked-counted : (i : ℕ) (g : ℤ) → (g ≡ pos 0 → ⊥) → slot-count cap v i g ≡ indicator (same-place (strips-of v h) h i g) + slot-count cap (unhooked h v) i g
+  unhooked-counted i g some =
+      slot-loss cap v (unhooked h v) (v .entry h) (held-slot v h here) (leb-true _ _ (x .inside h))
+      (λ j d. (
+        grind (arith, eqb-tells j (v .entry h), eqb-tells j (v .entry a), eqb-tells j (v .entry b), eqb-tells (v .entry a) (v .entry b)),
+        grind (arith, eqb-tells j (v .entry h), eqb-tells j (v .entry a), eqb-tells j (v .entry b), eqb-tells (v .entry a) (v .entry b)),
+      ))
+      (grind (arith, eqb-tells (v .entry h) (v .entry h))) i g some
+      ∙ ap (λ k. indicator (same-place (strips-of v h) k i g) + slot-count cap (unhooked h v) i g) (x .named h here)
+
+  no-zero : (g : ℤ) → turn-of v .held g ≡ true → g ≡ pos 0 → ⊥
+  no-zero g e z = both-ways _ (w .no-zero) (ap (turn-of v .held) (sym z) ∙ e)
+
+  pub unhooked-unlinked : Unlinked cap v → Unlinked cap (unhooked h v)
+  unhooked-unlinked o =
+      written-unlinked cap v₂
+      (written-unlinked cap v₁
+      (written-unlinked cap v o (v .entry b) (with-follower a (row-of v b)) (home-not (with-follower a (row-of v b)) (λ z. no-zero b before-held (sym (x .named b before-held) ∙ z)) (no-zero a after-held)))
+      (v .entry a) (with-predecessor b (row-of v₁ a)) (home-not (with-predecessor b (row-of v₁ a)) (λ z. no-zero a after-held (sym (led-indexed .named a after-held) ∙ z)) leads))
+      (v .entry h) none (λ _. (refl, refl))
+    where
+      leads : row-of v₁ a .follower ≡ pos 0 → ⊥
+      leads z = grind (arith, tell a b, rows₁ a, z, no-zero a after-held, no-zero (row-of v a .follower) (w .ahead a after-held))

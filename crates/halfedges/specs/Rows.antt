@@ -3,9 +3,9 @@
 use mathlib.Core.Path.{_≡_}
 use mathlib.Core.Bool.{Bool, true, false, cond, _&&_, not}
 use mathlib.Core.List.{List, [], _∷_}
-use Prim.Native.Nat.{ℕ, zero, suc, _+_, _*_, _≤_, _<_}
-use lib.Dec.{eqb, leb}
-use lib.IntN.{ℤ, pos, negsuc, negℤ}
+use Prim.Native.Nat.{ℕ, zero, suc, _+_, _≤_, _<_}
+use lib.Dec.{eqb, leb, ltb}
+use lib.IntN.{ℤ, pos, negℤ}
 use lib.ListN.{length, getD}
 use Rattle.std.specs.declared.option.Option.{Option}
 use Rattle.std.specs.declared.option.Option.the-variants.{Some, None}
@@ -40,9 +40,17 @@ points-of v h = cond (turn-of v .held h) (Some (row-point (row-of v h))) None
 abbrev pub lines-in : View → Linework
 lines-in v = record { turn = turn-of v; points = points-of v }
 
+-- the strip of each name's row
+abbrev pub strips-of : View → ℤ → ℕ
+strips-of v h = row-of v h .strip
+
 -- a home row has a name and a follower; an external row has a name alone
 abbrev pub home : Halfedge → Bool
 home r = not (equal (r .name) (pos 0)) && not (equal (r .follower) (pos 0))
+
+-- rows that are not home have no links
+abbrev pub Unlinked : ℕ → View → Type 0
+Unlinked cap v = (s : ℕ) → 1 ≤ s → s ≤ cap → home (v .row s) ≡ false → (v .row s .follower ≡ pos 0) × (v .row s .predecessor ≡ pos 0)
 
 -- the index is right: an entry leads to a row of its name, and the entry of each home row's name leads to that row
 pub record Indexed (cap : ℕ) (v : View) : Type 0 where
@@ -87,9 +95,13 @@ taken-row v s = not (equal (v .row s .name) (pos 0))
 unfoldable pub used : ℕ → View → ℕ
 used cap v = count cap (taken-row v)
 
+-- the strip and the name k are the strip i and the name h
+abbrev pub same-place : ℕ → ℤ → ℕ → ℤ → Bool
+same-place strip k i h = equal k h && eqb strip i
+
 -- the row at slot s has this strip and this name
 abbrev pub row-in : View → ℕ → ℤ → ℕ → Bool
-row-in v i h s = equal (v .row s .name) h && eqb (v .row s .strip) i
+row-in v i h s = same-place (v .row s .strip) (v .row s .name) i h
 
 -- how many slots of strip i have the name h
 unfoldable pub slot-count : ℕ → View → ℕ → ℤ → ℕ
@@ -99,12 +111,27 @@ slot-count cap v i h = count cap (row-in v i h)
 unfoldable pub edge-count : ℕ → Turn → ℕ
 edge-count n t = count n (λ e. t .held (pos e))
 
--- k has come in at some slot: the meaning has it, the index is right, and one row more is used
-pub record Brought (cap : ℕ) (k : ℤ) (c : Option ℤ) (p : Point) (v v′ : View) : Type 0 where
+-- k has come in at some slot of the strip: the meaning has it, the index is right, and one row more is used
+pub record Brought (cap strip : ℕ) (k : ℤ) (c : Option ℤ) (p : Point) (v v′ : View) : Type 0 where
   pub turn : turn-of v′ ≡ put c k (turn-of v)
   pub points : points-of v′ ≡ at k (Some p) (points-of v)
+  pub strips : strips-of v′ ≡ at k strip (strips-of v)
   pub indexed : Indexed cap v′
   pub used : used cap v′ ≡ suc (used cap v)
+  pub counted : (i : ℕ) (h : ℤ) → (h ≡ pos 0 → ⊥) → slot-count cap v′ i h ≡ indicator (same-place strip k i h) + slot-count cap v i h
+  pub unlinked : Unlinked cap v → Unlinked cap v′
+
+-- ---- external rows
+-- how many external rows strip i has under the name h, of an edge e that starts in strip a and ends in strip b: +e in each later strip, -e in each earlier one
+abbrev pub externals : ℕ → ℕ → ℕ → ℕ → ℤ → ℕ
+externals e a b i h = indicator (equal (pos e) h && ltb a i && leb i b) + indicator (equal (negℤ (pos e)) h && leb a i && ltb i b)
+
+-- v′ is v with m external rows more, c i h of them in strip i under the name h
+pub record Planted (cap m : ℕ) (c : ℕ → ℤ → ℕ) (v v′ : View) : Type 0 where
+  pub lines : lines-in v′ ≡ lines-in v
+  pub strips : strips-of v′ ≡ strips-of v
+  pub used : used cap v′ ≡ m + used cap v
+  pub counted : (i : ℕ) (h : ℤ) → (h ≡ pos 0 → ⊥) → slot-count cap v′ i h ≡ c i h + slot-count cap v i h
 
 -- ---- whole memories
 -- the records are enough, the index is right, and the line work is lawful and placed

@@ -1,13 +1,14 @@
 // Whole edges: both names of an edge come in, go out, or make room for a point between. Each name starts in a strip that the store tells.
 ghost use mathlib.Core.Path.{_≡_};
 ghost use mathlib.Core.Bool.{true};
-ghost use Prim.Native.Nat.{_+_, _≤_};
+ghost use Prim.Native.Nat.{ℕ, _+_, _≤_};
 ghost use lib.IntN.{ℤ, pos, negℤ};
+ghost use Rattle.flat.specs.Orbits.{indicator};
 ghost use Rattle.turning.specs.Limits.{max-edge, slots};
-ghost use Rattle.chart.specs.Changes.{lifted, cleft};
+ghost use Rattle.chart.specs.Changes.{at as change-at, lifted, cleft};
 ghost use Rattle.laws.specs.Rotations.{Ends, Cuts};
 ghost use Rattle.halfedges.specs.View.{seen};
-ghost use Rattle.halfedges.specs.Rows.{turn-of, lines-in, used, Core, hung-between};
+ghost use Rattle.halfedges.specs.Rows.{turn-of, strips-of, lines-in, used, Unlinked, same-place, slot-count, Core, hung-between};
 use crate::halfedge::Rows;
 use crate::links::bring;
 use crate::links::unhook;
@@ -29,6 +30,9 @@ pub fn hang_edge(rows: &mut Rows, edge: u16, start: End, end: End, span: Span)
     ensures lines { λ _. ⌜ lines-in (seen (now (now (rows .exit) .at))) ≡ hung-between edge start end (lines-in (seen (now (now (rows .entry) .at)))) ⌝ }
     ensures core { λ _. ⌜ Core max-edge slots (now (now (rows .exit) .at)) ⌝ }
     ensures used { λ _. ⌜ used slots (seen (now (now (rows .exit) .at))) ≡ used slots (seen (now (now (rows .entry) .at))) + 2 ⌝ }
+    ensures strips { λ _. ⌜ strips-of (seen (now (now (rows .exit) .at))) ≡ change-at (negℤ (pos edge)) (span .east) (change-at (pos edge) (span .west) (strips-of (seen (now (now (rows .entry) .at))))) ⌝ }
+    ensures counted { λ _. ⌜ ((i : ℕ) (h : ℤ) → (h ≡ pos 0 → ⊥) → slot-count slots (seen (now (now (rows .exit) .at))) i h ≡ indicator (same-place (span .east) (negℤ (pos edge)) i h) + (indicator (same-place (span .west) (pos edge) i h) + slot-count slots (seen (now (now (rows .entry) .at))) i h)) ⌝ }
+    ensures unlinked { λ _. ⌜ (Unlinked slots (seen (now (now (rows .entry) .at))) → Unlinked slots (seen (now (now (rows .exit) .at)))) ⌝ }
 {
     let e = edge as i16;
     bring(rows.at, span.west, e, start.corner, start.point);
@@ -42,6 +46,9 @@ pub fn lift_edge(rows: &mut Rows, edge: u16)
     ensures lines { λ _. ⌜ lines-in (seen (now (now (rows .exit) .at))) ≡ lifted edge (lines-in (seen (now (now (rows .entry) .at)))) ⌝ }
     ensures core { λ _. ⌜ Core max-edge slots (now (now (rows .exit) .at)) ⌝ }
     ensures used { λ _. ⌜ used slots (seen (now (now (rows .exit) .at))) + 2 ≡ used slots (seen (now (now (rows .entry) .at))) ⌝ }
+    ensures strips { λ _. ⌜ strips-of (seen (now (now (rows .exit) .at))) ≡ change-at (negℤ (pos edge)) 0 (change-at (pos edge) 0 (strips-of (seen (now (now (rows .entry) .at))))) ⌝ }
+    ensures counted { λ _. ⌜ ((i : ℕ) (h : ℤ) → (h ≡ pos 0 → ⊥) → slot-count slots (seen (now (now (rows .entry) .at))) i h ≡ indicator (same-place (strips-of (seen (now (now (rows .entry) .at))) (pos edge)) (pos edge) i h) + (indicator (same-place (strips-of (seen (now (now (rows .entry) .at))) (negℤ (pos edge))) (negℤ (pos edge)) i h) + slot-count slots (seen (now (now (rows .exit) .at))) i h)) ⌝ }
+    ensures unlinked { λ _. ⌜ (Unlinked slots (seen (now (now (rows .entry) .at))) → Unlinked slots (seen (now (now (rows .exit) .at)))) ⌝ }
 {
     let e = edge as i16;
     unhook(rows.at, e);
@@ -56,6 +63,9 @@ pub fn cleave_edge(rows: &mut Rows, edge: u16, east: u16, at: Point, to: Point, 
     ensures lines { λ _. ⌜ lines-in (seen (now (now (rows .exit) .at))) ≡ cleft edge east at (lines-in (seen (now (now (rows .entry) .at)))) ⌝ }
     ensures core { λ _. ⌜ Core max-edge slots (now (now (rows .exit) .at)) ⌝ }
     ensures used { λ _. ⌜ used slots (seen (now (now (rows .exit) .at))) ≡ used slots (seen (now (now (rows .entry) .at))) + 2 ⌝ }
+    ensures strips { λ _. ⌜ strips-of (seen (now (now (rows .exit) .at))) ≡ change-at (pos east) (span .west) (change-at (negℤ (pos edge)) (span .west) (change-at (negℤ (pos east)) (span .east) (strips-of (seen (now (now (rows .entry) .at)))))) ⌝ }
+    ensures counted { λ _. ⌜ ((i : ℕ) (h : ℤ) → (h ≡ pos 0 → ⊥) → indicator (same-place (strips-of (seen (now (now (rows .entry) .at))) (negℤ (pos edge))) (negℤ (pos edge)) i h) + slot-count slots (seen (now (now (rows .exit) .at))) i h ≡ indicator (same-place (span .west) (pos east) i h) + (indicator (same-place (span .west) (negℤ (pos edge)) i h) + (indicator (same-place (span .east) (negℤ (pos east)) i h) + slot-count slots (seen (now (now (rows .entry) .at))) i h))) ⌝ }
+    ensures unlinked { λ _. ⌜ (Unlinked slots (seen (now (now (rows .entry) .at))) → Unlinked slots (seen (now (now (rows .exit) .at)))) ⌝ }
 {
     let e = -(edge as i16);
     let f = east as i16;

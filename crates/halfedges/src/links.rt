@@ -123,7 +123,7 @@ pub fn bring(rows: &mut [Halfedge], strip: u16, k: i16, corner: Option<i16>, at:
     requires room { ⌜ used slots (seen (now rows)) < slots ⌝ }
     requires fresh { ⌜ Fresh max-edge (turn-of (seen (now rows))) k ⌝ }
     requires corner { ⌜ Corner-held (seen (now rows)) corner ⌝ }
-    ensures brought { λ _. ⌜ Brought slots k corner at (seen (now (rows .entry))) (seen (now (rows .exit))) ⌝ }
+    ensures brought { λ _. ⌜ Brought slots strip k corner at (seen (now (rows .entry))) (seen (now (rows .exit))) ⌝ }
     ensures roomy { λ _. ⌜ Roomy max-edge slots (now (rows .exit)) ⌝ }
 {
     let s = free_slot(rows);

@@ -7,11 +7,10 @@ ghost use lib.Signed.{_≤ℤ_};
 ghost use Rattle.std.specs.declared.option.Option.{Option};
 ghost use Rattle.turning.specs.Limits.{max-edge, slots};
 ghost use Rattle.halfedges.specs.View.{bare, none, seen, row-of, Roomy, Lent, written, noted};
-ghost use Rattle.halfedges.specs.Rows.{turn-of, points-of, used, edge-count, blank, Blank};
+ghost use Rattle.halfedges.specs.Rows.{points-of, used, Blank};
 use crate::halfedge::FREE;
 use crate::halfedge::Halfedge;
 use chart::point::Point;
-use turning::limits::MAX_EDGE;
 use turning::limits::MAX_NAME;
 use turning::limits::SLOTS;
 
@@ -99,14 +98,14 @@ pub fn free_slot(rows: &[Halfedge]) -> usize
     0
 }
 
-// The number of edges.
-pub fn count_edges(rows: &[Halfedge]) -> u16
-    requires { ⌜ Lent max-edge slots (now rows) ⌝ }
-    ensures { λ r. ⌜ r ≡ edge-count max-edge (turn-of (seen (now (rows .entry)))) ⌝ }
+// The number of slots in use.
+pub fn count_used(rows: &[Halfedge]) -> usize
+    requires { ⌜ Roomy max-edge slots (now rows) ⌝ }
+    ensures { λ r. ⌜ r ≡ used slots (seen (now (rows .entry))) ⌝ }
 {
     let mut count = 0;
-    for e in 1..=MAX_EDGE {
-        if slot(rows, e as i16) != 0 {
+    for i in 0..SLOTS {
+        if rows[i].name != 0 {
             count += 1;
         }
     }

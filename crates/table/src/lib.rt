@@ -25,6 +25,7 @@ use chart::asks::may_hang;
 use chart::asks::west_to_east;
 use chart::point::End;
 use chart::point::Point;
+use halfedges::copy::count_edges;
 use halfedges::edges::Span;
 use halfedges::edges::cleave_edge;
 use halfedges::edges::hang_edge;
@@ -35,6 +36,8 @@ use halfedges::slots;
 use turning::Turning;
 use turning::limits::SLOTS;
 use turning::refusal::Refusal;
+
+pub mod merge;
 
 // All of a single table lies in one strip.
 const WHOLE: Span = Span { west: 1, east: 1 };
@@ -75,7 +78,7 @@ impl<'a> Table<'a> {
     fn has_room(&self) -> bool
         ensures { λ r. ⌜ ((p q : Point) → r ≡ fits-of (now (now (self .entry) .rows .at)) p q) ⌝ }
     {
-        self.rows.at.len() >= SLOTS && slots::count_edges(self.rows.at) as usize * 2 + 2 <= SLOTS
+        self.rows.at.len() >= SLOTS && count_edges(self) as usize * 2 + 2 <= SLOTS
     }
 }
 

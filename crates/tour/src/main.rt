@@ -18,22 +18,15 @@ use turning::Turning;
 use turning::limits::LINE_NAMES;
 use turning::limits::MARK_BYTES;
 use turning::limits::SLOTS;
-use turning::refusal::Refusal;
+use turning::refusal::RefusalDebug;
+use turning::refusal::RefusalDisplay;
+use turning::refusal::RefusalError;
 
 const A: Point = Point { x: 0, y: 0 };
 
 const B: Point = Point { x: 4, y: 0 };
 
 const C: Point = Point { x: 2, y: 3 };
-
-// The number of a refusal, as an error that a program can end with.
-fn refused(r: Refusal) -> AnyError {
-    match r {
-        Refusal::ShortMemory => "refused: 18".into(),
-        Refusal::ShortBuffers => "refused: 20".into(),
-        Refusal::NotThere => "refused: 23".into(),
-    }
-}
 
 fn yes_or_no(answer: bool) -> &'static str {
     if answer { "yes" } else { "no" }
@@ -99,10 +92,7 @@ fn draw<S: Store>(rt: &impl Print, store: &mut S) -> Result<(), AnyError> {
 
 // Prints the loop of h: its halfedges, each with the point where it starts.
 fn print_loop<T: Chart>(rt: &impl Print, t: &T, h: i16) -> Result<(), AnyError> {
-    let length = match loop_length(t, h) {
-        Ok(n) => n,
-        Err(r) => return Err(refused(r)),
-    };
+    let length = loop_length(t, h)?;
     print!(rt, "loop of {length} halfedges:")?;
     let side = LoopSide { below: t };
     let mut x = h;
@@ -124,10 +114,7 @@ fn print_counts<T: Turning>(
     marks: &mut [u8],
     line: &mut [i16],
 ) -> Result<(), AnyError> {
-    let c = match counts(t, marks, line) {
-        Ok(c) => c,
-        Err(r) => return Err(refused(r)),
-    };
+    let c = counts(t, marks, line)?;
     let (vertices, edges, loops, pieces) = (c.vertices, c.edges, c.loops, c.pieces);
     println!(
         rt,
@@ -145,9 +132,7 @@ fn tour(rt: &LibcRuntime) -> Result<(), AnyError> {
     let mut marks = vec![in heap; 0u8; MARK_BYTES]?;
     let mut line = vec![in heap; 0i16; LINE_NAMES]?;
     let mut table = Table::new(memory.as_mut_slice());
-    if let Err(r) = table.ready() {
-        return Err(refused(r));
-    }
+    table.ready()?;
     println!(rt, "a new table over {SLOTS} records")?;
     draw(rt, &mut table)?;
     print_loop(rt, &table, 1)?;

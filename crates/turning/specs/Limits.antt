@@ -14,6 +14,10 @@ max-coordinate = 1000000
 abbrev pub slots : ℕ
 slots = 4000
 
+-- how many strips a sheet may have
+abbrev pub max-strips : ℕ
+max-strips = 32
+
 -- how many bytes of marks a search is lent: one for each name of the edges 1 to n, and one for 0
 abbrev pub marks-for : ℕ → ℕ
 marks-for n = 2 * n + 1

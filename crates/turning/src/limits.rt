@@ -12,6 +12,12 @@ pub const MAX_COORDINATE: i32 = 1_000_000;
 // How many records a store uses of the memory that it is lent.
 pub const SLOTS: usize = 4000;
 
+// How many strips a sheet may have.
+pub const MAX_STRIPS: usize = 32;
+
+// How many borders lie between that many strips.
+pub const MAX_BORDERS: usize = 31;
+
 // A byte of marks for each name, and one for 0.
 pub const MARK_BYTES: usize = 8191;
 

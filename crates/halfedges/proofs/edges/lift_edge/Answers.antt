@@ -2,7 +2,7 @@ use mathlib.Core.Path.{_≡_, sym, ap, _∙_}
 use lib.IntN.{pos, negℤ}
 use Rattle.halfedges.specs.View.{seen}
 use Rattle.halfedges.specs.Rows.{turn-of, unhooked}
-use Rattle.halfedges.proofs.Lifts.{rotation₀, indexed₁, rotation₁, here₁, lift-lines, lift-core, lift-used}
+use Rattle.halfedges.proofs.Lifts.{rotation₀, indexed₁, rotation₁, here₁, lift-lines, lift-core, lift-used, lift-strips, lift-counted, lift-unlinked}
 use Rattle.turning.proofs.Names.{plus-fits, plus-name, minus-fits, minus-name, held-small}
 use Rattle.halfedges.proofs.edges.lift_edge.Needs as need
 
@@ -51,4 +51,7 @@ returns c =
       lines = lift-lines rs (c .pre .core) e (c .pre .here) rs₁ first rs₂ (c .unhook-2 .ensures .roomy) second;
       core = lift-core rs (c .pre .core) e (c .pre .here) rs₁ first rs₂ (c .unhook-2 .ensures .roomy) second;
       used = lift-used rs (c .pre .core) e (c .pre .here) rs₁ first rs₂ (c .unhook-2 .ensures .roomy) second;
+      strips = lift-strips rs (c .pre .core) e (c .pre .here) rs₁ first rs₂ (c .unhook-2 .ensures .roomy) second;
+      counted = lift-counted rs (c .pre .core) e (c .pre .here) rs₁ first rs₂ (c .unhook-2 .ensures .roomy) second;
+      unlinked = lift-unlinked rs (c .pre .core) e (c .pre .here) rs₁ first rs₂ (c .unhook-2 .ensures .roomy) second;
     }

@@ -5,8 +5,8 @@ use mir.Syntax.{w16}
 use Rattle.std.proofs.shelf.Signed.{toZ-ofZ}
 use Rattle.turning.specs.Limits.{max-edge, slots}
 use Rattle.halfedges.specs.View.{seen}
-use Rattle.halfedges.specs.Rows.{turn-of, points-of, Indexed, hooked, used}
-use Rattle.halfedges.proofs.Comes.{hooked-turn, hooked-points, hooked-indexed, hooked-used}
+use Rattle.halfedges.specs.Rows.{turn-of, points-of, strips-of, Unlinked, Indexed, hooked, used, slot-count}
+use Rattle.halfedges.proofs.Comes.{hooked-turn, hooked-points, hooked-strips, hooked-indexed, hooked-used, hooked-counted, hooked-unlinked}
 use Rattle.halfedges.proofs.links.bring.Needs as need
 
 pub returns : need.returns
@@ -22,8 +22,11 @@ returns c =
       brought = record {
         turn = ap turn-of e ∙ hooked-turn slots v (r .indexed) max-edge (r .rotation) s (a .strip) (f .low) (f .high) (f .free) (a .k) (r .fresh) (a .at) (a .corner) (r .corner);
         points = ap points-of e ∙ hooked-points slots v (r .indexed) max-edge (r .rotation) s (a .strip) (f .low) (f .high) (f .free) (a .k) (r .fresh) (a .at) (a .corner) (r .corner);
+        strips = ap strips-of e ∙ hooked-strips slots v (r .indexed) max-edge (r .rotation) s (a .strip) (f .low) (f .high) (f .free) (a .k) (r .fresh) (a .at) (a .corner) (r .corner);
         indexed = subst (Indexed slots) (sym e) (hooked-indexed slots v (r .indexed) max-edge (r .rotation) s (a .strip) (f .low) (f .high) (f .free) (a .k) (r .fresh) (a .at) (a .corner) (r .corner));
         used = ap (used slots) e ∙ hooked-used slots v (r .indexed) max-edge (r .rotation) s (a .strip) (f .low) (f .high) (f .free) (a .k) (r .fresh) (a .at) (a .corner) (r .corner);
+        counted = λ i h some. ap (λ u. slot-count slots u i h) e ∙ hooked-counted slots v (r .indexed) max-edge (r .rotation) s (a .strip) (f .low) (f .high) (f .free) (a .k) (r .fresh) (a .at) (a .corner) (r .corner) i h some;
+        unlinked = λ o. subst (Unlinked slots) (sym e) (hooked-unlinked slots v (r .indexed) max-edge (r .rotation) s (a .strip) (f .low) (f .high) (f .free) (a .k) (r .fresh) (a .at) (a .corner) (r .corner) o);
       };
       roomy = c .hook .ensures .roomy;
     }

@@ -1,0 +1,5 @@
+// Sheets in strips: borders cut a sheet from north to south, and each strip has its own slots.
+pub mod borders;
+mod changes;
+pub mod laws;
+pub mod sheet;

@@ -33,13 +33,13 @@ module _ (cap : ℕ) (v : View) (x : Indexed cap v) (s : ℕ) (low : 1 ≤ s) (h
   beside-rows : (g : ℤ) → row-of (written s r v) g ≡ row-of v g
   beside-rows g = cond-false (eqb (v .entry g) s) r (row-of v g) (grind (arith, eqb-tells (v .entry g) s, off g))
 
-  beside-lines : lines-in (written s r v) ≡ lines-in v
+  pub beside-lines : lines-in (written s r v) ≡ lines-in v
   beside-lines = λ i. record {
     turn = record { held = turn-of v .held; follower = λ g. beside-rows g i .follower; predecessor = λ g. beside-rows g i .predecessor };
     points = λ g. cond (turn-of v .held g) (Some (row-point (beside-rows g i))) None;
   }
 
-  beside-strips : strips-of (written s r v) ≡ strips-of v
+  pub beside-strips : strips-of (written s r v) ≡ strips-of v
   beside-strips = λ i g. beside-rows g i .strip
 
   pub beside-indexed : Indexed cap (written s r v)

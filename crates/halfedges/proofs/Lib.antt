@@ -10,3 +10,4 @@ pub mod Hangs
 pub mod Cleaves
 pub mod Props
 pub mod Copying
+pub mod Alone

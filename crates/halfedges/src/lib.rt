@@ -6,3 +6,4 @@ pub mod external;
 pub mod halfedge;
 pub mod links;
 pub mod slots;
+pub mod strips;

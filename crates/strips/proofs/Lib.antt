@@ -6,3 +6,6 @@ pub mod Keeping
 pub mod Lifting
 pub mod Cleaving
 pub mod Standing
+pub mod Homes
+pub mod Planting
+pub mod Laying

@@ -1,3 +1,5 @@
 pub mod Borders
 pub mod Cuts
 pub mod Sheets
+pub mod Recuts
+pub mod Answers

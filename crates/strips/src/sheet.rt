@@ -6,15 +6,16 @@ ghost use Prim.Native.Nat.{_<_};
 ghost use lib.Dec.{leb};
 ghost use lib.ListN.{length};
 ghost use denote.Ref.{now as behind};
-ghost use Rattle.turning.specs.Limits.{slots};
+ghost use Rattle.turning.specs.Limits.{max-edge, slots};
 ghost use Rattle.turning.specs.Refusals.{asked};
 ghost use Rattle.turning.specs.declared.refusal.Refusal.the-variants.{ShortMemory};
 ghost use Rattle.chart.specs.declared.point.Point.{Point};
 ghost use Rattle.chart.specs.Linework.{no-lines};
+ghost use Rattle.chart.specs.Stores.{Hangs, Lifts, Cleaves};
 ghost use Rattle.halfedges.specs.View.{seen};
 ghost use Rattle.halfedges.specs.Rows.{turn-of, points-of, lines-in};
-ghost use Rattle.strips.specs.Cuts.{list-of};
-ghost use Rattle.strips.specs.Sheets.{Kept, lawful-of, fits-of};
+ghost use Rattle.strips.specs.Cuts.{list-of, may-cut};
+ghost use Rattle.strips.specs.Sheets.{Kept, lawful-of, fits-of, meaning};
 use crate::borders;
 use crate::borders::Borders;
 use crate::borders::strip_of;
@@ -40,8 +41,9 @@ use turning::refusal::Refusal;
 // Line work cut into strips, in memory that the caller lends. Where the memory is too short, the sheet holds nothing and nothing fits.
 #[derive(Drop)]
 pub struct Sheet<'a> {
-    rows: Rows<'a>,
-    borders: Borders,
+    pub(crate) rows: Rows<'a>,
+    pub(crate) borders: Borders,
+    ghost cut: { may-cut (list-of borders) ≡ true },
     ghost ok: { ∥ Kept (list-of borders) (behind (rows .at)) ∥₁ },
 }
 
@@ -117,7 +119,10 @@ pub impl Chart for Sheet<'_> as SheetChart {
 pub impl Store for Sheet<'_> as SheetStore {
     ghost fits = { λ s. fits-of (list-of (s .borders)) (behind (s .rows .at)) };
 
-    fn hang(&mut self, edge: u16, a: End, b: End) -> bool {
+    fn hang(&mut self, edge: u16, a: End, b: End) -> bool
+        ensures change { λ r. ⌜ Hangs max-edge (meaning (list-of (now (self .entry) .borders)) (now (now (self .entry) .rows .at))) edge a b r (meaning (list-of (now (self .exit) .borders)) (now (now (self .exit) .rows .at))) ⌝ }
+        ensures borders { λ _. ⌜ now (self .exit) .borders ≡ now (self .entry) .borders ⌝ }
+    {
         let fits = self.has_room(a.point, b.point);
         if !may_hang(self, edge, a, b, fits) {
             return false;
@@ -127,7 +132,10 @@ pub impl Store for Sheet<'_> as SheetStore {
         true
     }
 
-    fn lift(&mut self, edge: u16) -> bool {
+    fn lift(&mut self, edge: u16) -> bool
+        ensures change { λ r. ⌜ Lifts (meaning (list-of (now (self .entry) .borders)) (now (now (self .entry) .rows .at))) edge r (meaning (list-of (now (self .exit) .borders)) (now (now (self .exit) .rows .at))) ⌝ }
+        ensures borders { λ _. ⌜ now (self .exit) .borders ≡ now (self .entry) .borders ⌝ }
+    {
         if !holds_edge(self, edge) {
             return false;
         }
@@ -135,7 +143,10 @@ pub impl Store for Sheet<'_> as SheetStore {
         true
     }
 
-    fn cleave(&mut self, edge: u16, east: u16, at: Point) -> bool {
+    fn cleave(&mut self, edge: u16, east: u16, at: Point) -> bool
+        ensures change { λ r. ⌜ Cleaves max-edge (meaning (list-of (now (self .entry) .borders)) (now (now (self .entry) .rows .at))) edge east at r (meaning (list-of (now (self .exit) .borders)) (now (now (self .exit) .rows .at))) ⌝ }
+        ensures borders { λ _. ⌜ now (self .exit) .borders ≡ now (self .entry) .borders ⌝ }
+    {
         let fits = self.has_room(at, at);
         if !may_cleave(self, edge, east, at, fits) {
             return false;

@@ -1,4 +1,4 @@
-use mathlib.Core.Path.{_≡_, sym, ap, _∙_}
+use mathlib.Core.Path.{_≡_, refl, sym, ap, _∙_}
 use mathlib.Core.Bool.{Bool, true}
 use mathlib.Core.List.{List}
 use Prim.Native.Nat.{ℕ}
@@ -40,11 +40,14 @@ cleave-through-requires c κs =
     record { stripped = h .stripped; cuts = h .cuts; room = h .room }
 
 pub ghost-self : need.ghost-self
-ghost-self c = (∣ (λ _. c .cleave-through .ensures .stripped) ∣₁, tt)
+ghost-self c = (c .args .self .now .cut, (∣ (λ _. c .cleave-through .ensures .stripped) ∣₁, tt))
 
 pub returns : need.returns
 returns c = record {
-  told = told (list-of (c .args .self .now .borders)) (c .args .self .now .rows .at .now) (c .args .edge) (c .args .east) (c .args .at) (c .has-room-fits .result) true (c .if-not-may-cleave .ensures tt) (c .has-room-fits .ensures);
-  changed = λ _. c .cleave-through .ensures .lines;
-  kept = λ f. absurd (true≢false f);
+  change = record {
+    told = told (list-of (c .args .self .now .borders)) (c .args .self .now .rows .at .now) (c .args .edge) (c .args .east) (c .args .at) (c .has-room-fits .result) true (c .if-not-may-cleave .ensures tt) (c .has-room-fits .ensures);
+    changed = λ _. c .cleave-through .ensures .lines;
+    kept = λ f. absurd (true≢false f);
+  };
+  borders = refl;
 }

@@ -31,4 +31,4 @@ hang-through-requires c κs =
     record { stripped = h .stripped; ends = h .ends; room = h .room }
 
 pub ghost-self : need.ghost-self
-ghost-self c = (∣ (λ _. c .hang-through .ensures .stripped) ∣₁, tt)
+ghost-self c = (c .args .self .now .cut, (∣ (λ _. c .hang-through .ensures .stripped) ∣₁, tt))

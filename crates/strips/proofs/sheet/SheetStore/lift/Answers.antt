@@ -10,4 +10,4 @@ lift-through-requires c κs =
     record { stripped = kept-out (list-of (s .borders)) (s .rows .at .now) (s .ok) (held-long (s .rows .at .now) _ here); here = here }
 
 pub ghost-self : need.ghost-self
-ghost-self c = (∣ (λ _. c .lift-through .ensures .stripped) ∣₁, tt)
+ghost-self c = (c .args .self .now .cut, (∣ (λ _. c .lift-through .ensures .stripped) ∣₁, tt))

@@ -5,6 +5,7 @@ use std::time::Instant;
 
 unsafe extern "C" {
     fn bench_walk_table(edges: u16, steps: u32) -> i64;
+    fn bench_walk_sheet(edges: u16, steps: u32) -> i64;
 }
 
 const SLOTS: usize = 4000;
@@ -84,9 +85,12 @@ fn least(mut run: impl FnMut() -> i64) -> f64 {
         .fold(f64::MAX, f64::min)
 }
 
-fn proved_step(edges: u16, steps: u32) -> f64 {
-    let with = least(|| unsafe { bench_walk_table(black_box(edges), steps) });
-    let without = least(|| unsafe { bench_walk_table(black_box(edges), 0) });
+type Walk = unsafe extern "C" fn(u16, u32) -> i64;
+
+// The cost of one step: a walk less the time to draw what it walks in.
+fn proved_step(walk: Walk, edges: u16, steps: u32) -> f64 {
+    let with = least(|| unsafe { walk(black_box(edges), steps) });
+    let without = least(|| unsafe { walk(black_box(edges), 0) });
     (with - without) / steps as f64
 }
 
@@ -95,14 +99,19 @@ fn plain_step(edges: i16, steps: u32) -> f64 {
     least(|| black_box(&t).walk(steps)) / steps as f64
 }
 
-fn main() {
+fn compare(name: &str, walk: Walk, full_edges: u16) {
     let steps = 20_000_000;
-    for edges in [2u16, 2000] {
-        let sum = unsafe { bench_walk_table(edges, 999_983) };
+    for edges in [2, full_edges] {
+        let sum = unsafe { walk(edges, 999_983) };
         assert_eq!(sum, Plain::chain(edges as i16).walk(999_983), "both walk alike");
     }
-    let (small, full) = (proved_step(2, steps), proved_step(2000, steps));
-    let (plain_small, plain_full) = (plain_step(2, steps), plain_step(2000, steps));
-    println!("a step in a full table costs {:.2} times a step in a table of two edges (plain Rust: {:.2})", full / small, plain_full / plain_small);
-    println!("a step costs {:.2} times plain Rust in a full table, {:.2} times in a table of two edges", full / plain_full, small / plain_small);
+    let (small, full) = (proved_step(walk, 2, steps), proved_step(walk, full_edges, steps));
+    let (plain_small, plain_full) = (plain_step(2, steps), plain_step(full_edges as i16, steps));
+    println!("{name}: a step among {full_edges} edges costs {:.2} times a step among two (plain Rust: {:.2})", full / small, plain_full / plain_small);
+    println!("{name}: a step costs {:.2} times plain Rust among {full_edges} edges, {:.2} times among two", full / plain_full, small / plain_small);
+}
+
+fn main() {
+    compare("table", bench_walk_table, 2000);
+    compare("sheet of 32 strips", bench_walk_sheet, 1960);
 }

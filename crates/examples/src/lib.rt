@@ -1,4 +1,4 @@
-// Worked examples as tests: small drawings in a single table, walked and counted.
+// Worked examples as tests: small drawings in a table and in strips, walked, counted and laid out.
 #[cfg(test)]
 mod tests {
     use chart::Store;
@@ -14,6 +14,13 @@ mod tests {
     use questions::loops::same_loop;
     use questions::pieces::same_piece;
     use std::test::*;
+    use strips::home::Home;
+    use strips::home::HomeDebug;
+    use strips::home::HomePartialEq;
+    use strips::sheet::Sheet;
+    use strips::sheet::SheetChart;
+    use strips::sheet::SheetStore;
+    use strips::sheet::SheetTurning;
     use table::Table;
     use table::TableChart;
     use table::TableStore;
@@ -180,5 +187,59 @@ mod tests {
         check(table.lift(3))?;
         check(!table.lift(3))?;
         check_loop(&table, &[2, -2, 1, 4, -4, -1])
+    }
+
+    #[test]
+    fn triangle_cut_at_two(rt: LibcRuntime) -> Result<(), Fail> {
+        let mut memory = vec![in rt.alloc(); FREE; SLOTS]?;
+        let mut strips = vec![in rt.alloc(); FREE; SLOTS]?;
+        let mut table = Table::new(memory.as_mut_slice());
+        draw_triangle(&mut table)?;
+        let mut sheet = Sheet::new(strips.as_mut_slice());
+        check_eq(sheet.layout(&table, &[2]), Ok(()))?;
+        check_eq(sheet.strips(), 2)?;
+        let one_away = Home {
+            strip: 1,
+            crossed: 1,
+        };
+        let here = Home {
+            strip: 2,
+            crossed: 0,
+        };
+        check_eq(sheet.home(2, 1), Ok(one_away))?;
+        check_eq(sheet.home(2, 3), Ok(here))?;
+        check_eq(sheet.home(1, 3), Err(Refusal::NotThere))?;
+        check_eq(sheet.home(3, 1), Err(Refusal::NotThere))?;
+        check_loop(&sheet, &[1, -3, -2])
+    }
+
+    #[test]
+    fn layouts_are_refused(rt: LibcRuntime) -> Result<(), Fail> {
+        let mut memory = vec![in rt.alloc(); FREE; SLOTS]?;
+        let mut strips = vec![in rt.alloc(); FREE; SLOTS]?;
+        let table = Table::new(memory.as_mut_slice());
+        let mut sheet = Sheet::new(strips.as_mut_slice());
+        let many = [0i32; 32];
+        check_eq(sheet.layout(&table, &many), Err(Refusal::TooManyStrips))?;
+        check_eq(sheet.layout(&table, &[2, 2]), Err(Refusal::BadBorders))?;
+        check_eq(sheet.layout(&table, &[1_000_001]), Err(Refusal::BadBorders))?;
+        check_eq(sheet.layout(&table, &[-1_000_000, 1_000_000]), Ok(()))?;
+        check_eq(sheet.strips(), 3)
+    }
+
+    #[test]
+    fn a_sheet_is_drawn_on_like_a_table(rt: LibcRuntime) -> Result<(), Fail> {
+        let mut memory = vec![in rt.alloc(); FREE; SLOTS]?;
+        let mut strips = vec![in rt.alloc(); FREE; SLOTS]?;
+        let table = Table::new(memory.as_mut_slice());
+        let mut sheet = Sheet::new(strips.as_mut_slice());
+        check_eq(sheet.layout(&table, &[1, 2, 3]), Ok(()))?;
+        draw_triangle(&mut sheet)?;
+        check_loop(&sheet, &[-1, 2, 3])?;
+        check(sheet.cleave(1, 4, Point { x: 2, y: 0 }))?;
+        check_loop(&sheet, &[1, 4, -3, -2])?;
+        check(sheet.lift(2))?;
+        check_eq(sheet.home(4, -3), Ok(Home { strip: 4, crossed: 0 }))?;
+        check_eq(sheet.home(2, 2), Err(Refusal::NotThere))
     }
 }

@@ -7,9 +7,10 @@ ghost use Rattle.turning.specs.Refusals.{asked};
 ghost use Rattle.turning.specs.declared.refusal.Refusal.the-variants.{NotThere};
 ghost use Rattle.halfedges.specs.View.{seen};
 ghost use Rattle.halfedges.specs.Rows.{lines-in};
-ghost use Rattle.strips.specs.Borders.{apart};
+ghost use Rattle.strips.specs.Borders.{apart, strip-count};
 ghost use Rattle.strips.specs.Cuts.{list-of};
 ghost use Rattle.strips.specs.Answers.{told-home};
+use crate::borders::strip_count;
 use crate::borders::strip_of;
 use crate::sheet::Sheet;
 use crate::sheet::SheetChart;
@@ -46,6 +47,13 @@ fn home_between(strip: u16, here: u16, there: u16, eastward: bool) -> Result<Hom
 }
 
 impl<'a> Sheet<'a> {
+    // How many strips the sheet has.
+    pub fn strips(&self) -> u16
+        ensures { λ r. ⌜ r ≡ strip-count (list-of (now (self .entry) .borders)) ⌝ }
+    {
+        strip_count(&self.borders)
+    }
+
     // The home of h, asked in a strip that has a slot of h.
     pub fn home(&self, strip: u16, h: i16) -> Result<Home, Refusal>
         ensures { λ r. ⌜ r ≡ told-home (list-of (now (self .entry) .borders)) (lines-in (seen (now (now (self .entry) .rows .at)))) strip h ⌝ }

@@ -1,12 +1,16 @@
-// A tour of the engine: one parcel is drawn in a single table, walked and counted, and each step is printed.
+// A tour of the engine: one parcel is drawn in a single table, walked and counted, laid out in strips, looked at strip by strip, and merged again. Each step is printed.
 use chart::Chart;
 use chart::Store;
 use chart::point::End;
 use chart::point::Point;
+use chart::point::PointPartialEq;
 use halfedges::halfedge::FREE;
 use questions::counting::counts;
 use questions::loops::loop_length;
 use std::error::AnyError;
+use strips::sheet::Sheet;
+use strips::sheet::SheetChart;
+use strips::sheet::SheetTurning;
 use table::Table;
 use table::TableChart;
 use table::TableStore;
@@ -17,6 +21,7 @@ use turning::RefTurning;
 use turning::Turning;
 use turning::limits::LINE_NAMES;
 use turning::limits::MARK_BYTES;
+use turning::limits::MAX_NAME;
 use turning::limits::SLOTS;
 use turning::refusal::RefusalDebug;
 use turning::refusal::RefusalDisplay;
@@ -42,52 +47,30 @@ fn hang<S: Store>(
 ) -> Result<(), AnyError> {
     let answer = yes_or_no(store.hang(edge, a, b));
     let (ax, ay, bx, by) = (a.point.x, a.point.y, b.point.x, b.point.y);
-    println!(
-        rt,
-        "hang {edge} between ({ax}, {ay}) and ({bx}, {by}): {answer}"
-    )?;
+    println!(rt, "hang {edge} between ({ax}, {ay}) and ({bx}, {by}): {answer}")?;
     Ok(())
 }
 
-// Draws the triangle A, B, C: edge 1 is AB, 2 is AC, 3 is CB.
+fn new_end(point: Point) -> End {
+    End {
+        point,
+        corner: None,
+    }
+}
+
+fn after(point: Point, c: i16) -> End {
+    End {
+        point,
+        corner: Some(c),
+    }
+}
+
+// Draws the triangle A, B, C: edge 1 is AB, 2 is AC, 3 is CB. The fourth edge finds its points taken.
 fn draw<S: Store>(rt: &impl Print, store: &mut S) -> Result<(), AnyError> {
-    let new_a = End {
-        point: A,
-        corner: None,
-    };
-    let new_b = End {
-        point: B,
-        corner: None,
-    };
-    let new_c = End {
-        point: C,
-        corner: None,
-    };
-    hang(rt, store, 1, new_a, new_b)?;
-    hang(
-        rt,
-        store,
-        2,
-        End {
-            point: A,
-            corner: Some(1),
-        },
-        new_c,
-    )?;
-    hang(
-        rt,
-        store,
-        3,
-        End {
-            point: C,
-            corner: Some(-2),
-        },
-        End {
-            point: B,
-            corner: Some(-1),
-        },
-    )?;
-    hang(rt, store, 4, new_a, new_c)
+    hang(rt, store, 1, new_end(A), new_end(B))?;
+    hang(rt, store, 2, after(A, 1), new_end(C))?;
+    hang(rt, store, 3, after(C, -2), after(B, -1))?;
+    hang(rt, store, 4, new_end(A), new_end(C))
 }
 
 // Prints the loop of h: its halfedges, each with the point where it starts.
@@ -126,9 +109,70 @@ fn print_counts<T: Turning>(
     Ok(())
 }
 
+// Prints the slots of one strip, and answers how many they are.
+fn print_strip(rt: &impl Print, sheet: &Sheet, strip: u16) -> Result<u32, AnyError> {
+    let mut slots: u32 = 0;
+    print!(rt, "strip {strip}:")?;
+    for h in -MAX_NAME..=MAX_NAME {
+        if let Ok(home) = sheet.home(strip, h) {
+            let kind = if home.strip == strip { "home" } else { "external" };
+            print!(rt, " {h:+} {kind}")?;
+            slots = slots.saturating_add(1);
+        }
+    }
+    println!(rt, "")?;
+    Ok(slots)
+}
+
+// Prints all slots strip by strip, and how many are used.
+fn print_slots(rt: &impl Print, sheet: &Sheet) -> Result<(), AnyError> {
+    let mut used: u32 = 0;
+    for strip in 1..=sheet.strips() {
+        used = used.saturating_add(print_strip(rt, sheet, strip)?);
+    }
+    println!(rt, "slots used: {used}")?;
+    Ok(())
+}
+
+// Do the two charts hold the same names with equal followers and points?
+fn equal<S: Chart, T: Chart>(s: &S, t: &T) -> bool {
+    let mut equal = true;
+    for h in -MAX_NAME..=MAX_NAME {
+        equal = equal && s.holds(h) == t.holds(h);
+        equal = equal && s.follower(h) == t.follower(h);
+        equal = equal && s.point(h) == t.point(h);
+    }
+    equal
+}
+
+// Lays the table's chart out in two strips, and merges it into another table.
+fn cut_and_merge(
+    rt: &impl Print,
+    table: &Table,
+    sheet: &mut Sheet,
+    merged: &mut Table,
+) -> Result<(), AnyError> {
+    sheet.layout(table, &[2])?;
+    let strips = sheet.strips();
+    println!(rt, "laid out with a border at x = 2: {strips} strips")?;
+    print_slots(rt, sheet)?;
+    let home = sheet.home(2, 1)?;
+    let (strip, crossed) = (home.strip, home.crossed);
+    println!(
+        rt,
+        "asked in strip 2, +1 is at home in strip {strip}, {crossed} border away"
+    )?;
+    sheet.merge(merged);
+    let answer = yes_or_no(equal(merged, table) && equal(sheet, table));
+    println!(rt, "merged into another table, the charts are equal: {answer}")?;
+    Ok(())
+}
+
 fn tour(rt: &LibcRuntime) -> Result<(), AnyError> {
     let heap = rt.alloc();
     let mut memory = vec![in heap; FREE; SLOTS]?;
+    let mut sheet_memory = vec![in heap; FREE; SLOTS]?;
+    let mut merged_memory = vec![in heap; FREE; SLOTS]?;
     let mut marks = vec![in heap; 0u8; MARK_BYTES]?;
     let mut line = vec![in heap; 0i16; LINE_NAMES]?;
     let mut table = Table::new(memory.as_mut_slice());
@@ -138,7 +182,11 @@ fn tour(rt: &LibcRuntime) -> Result<(), AnyError> {
     print_loop(rt, &table, 1)?;
     print_loop(rt, &table, -1)?;
     print_counts(rt, &table, marks.as_mut_slice(), line.as_mut_slice())?;
-    Ok(())
+    let mut sheet = Sheet::new(sheet_memory.as_mut_slice());
+    sheet.ready()?;
+    let mut merged = Table::new(merged_memory.as_mut_slice());
+    merged.ready()?;
+    cut_and_merge(rt, &table, &mut sheet, &mut merged)
 }
 
 fn main(rt: LibcRuntime) -> Result<(), AnyError> {

@@ -52,10 +52,11 @@ drawn k t = record {
 }
 
 -- ---- hang
--- the western and the eastern of two ends
+-- the western of two ends
 abbrev pub western : End → End → End
 western a b = cond (west (a .point) (b .point)) a b
 
+-- the eastern of two ends
 abbrev pub eastern : End → End → End
 eastern a b = cond (west (a .point) (b .point)) b a
 
@@ -79,12 +80,14 @@ abbrev pub joins-at : ℕ → Linework → Point → Option ℤ → Bool
 joins-at n l p None = not (vertex-at n l p)
 joins-at n l p (Some c) = l .turn .held c && is-point p (l .points c)
 
+-- the edge e may hang between the ends a and b
 abbrev pub may-hang : ℕ → Linework → (Point → Point → Bool) → ℕ → End → End → Bool
 may-hang n l fits e a b =
     numbered n e && not (l .turn .held (pos e)) && on-sheet (a .point) && on-sheet (b .point) && not (same-point (a .point) (b .point))
     && joins-at n l (a .point) (a .corner) && joins-at n l (b .point) (b .corner) && fits (a .point) (b .point)
 
 -- ---- lift
+-- both names of the edge e go out
 abbrev pub lifted : ℕ → Linework → Linework
 lifted e l = record {
   turn = drawn (negℤ (pos e)) (drawn (pos e) (l .turn));
@@ -111,6 +114,7 @@ cleft e f p l = record {
   points = at (negℤ (pos f)) (l .points (negℤ (pos e))) (at (pos f) (Some p) (at (negℤ (pos e)) (Some p) (l .points)));
 }
 
+-- the edge e may be cleft at p, its eastern part the edge f
 abbrev pub may-cleave : ℕ → Linework → (Point → Point → Bool) → ℕ → ℕ → Point → Bool
 may-cleave n l fits e f p =
     l .turn .held (pos e) && numbered n f && not (l .turn .held (pos f)) && on-sheet p && not (vertex-at n l p)

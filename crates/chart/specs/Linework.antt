@@ -11,6 +11,7 @@ use Rattle.turning.specs.Counts.{same-round}
 use Rattle.chart.specs.declared.point.Point.{Point}
 use Rattle.chart.specs.Points.{told-west, told-on-sheet}
 
+-- a turning and its points
 pub record Linework : Type 0 where
   pub turn : Turn
   pub points : ℤ → Option Point

@@ -26,11 +26,14 @@ pub record Change (m : Meaning) (answer : Bool) (made : Linework) (r : Bool) (m�
   pub changed : r ≡ true → m′ .lines ≡ made
   pub kept : r ≡ false → m′ ≡ m
 
+-- hang, from m to m′, with the answer r
 abbrev pub Hangs : ℕ → Meaning → ℕ → End → End → Bool → Meaning → Type 0
 Hangs n m e a b r m′ = Change m (may-hang n (m .lines) (m .fits) e a b) (hung e a b (m .lines)) r m′
 
+-- lift, from m to m′, with the answer r
 abbrev pub Lifts : Meaning → ℕ → Bool → Meaning → Type 0
 Lifts m e r m′ = Change m (m .lines .turn .held (pos e)) (lifted e (m .lines)) r m′
 
+-- cleave, from m to m′, with the answer r
 abbrev pub Cleaves : ℕ → Meaning → ℕ → ℕ → Point → Bool → Meaning → Type 0
 Cleaves n m e f p r m′ = Change m (may-cleave n (m .lines) (m .fits) e f p) (cleft e f p (m .lines)) r m′

@@ -16,6 +16,7 @@ use Rattle.halfedges.specs.declared.halfedge.Halfedge.{Halfedge}
 use Rattle.halfedges.specs.View.{View, none, key, is-name, entry-at, row-of, row-at, view}
 use Rattle.halfedges.specs.Rows.{turn-of, points-of, lines-in}
 
+-- an index without an entry means no line work
 pub nothing-lines : (v : View) → ((h : ℤ) → v .entry h ≡ 0) → v .row 0 ≡ none → lines-in v ≡ no-lines
 nothing-lines v empty zero-row = λ i. record {
   turn = record {

@@ -45,10 +45,11 @@ x-of (Some p) = p .x
 abbrev pub home-strip : List ℤ → Linework → ℤ → ℕ
 home-strip bs l h = strip-of bs (x-of (l .points h))
 
--- the first and the last strip of the edge of a name: those of its western and of its eastern end
+-- the first strip of the edge of a name: that of its western end
 abbrev pub first-strip : List ℤ → Linework → ℤ → ℕ
 first-strip bs l h = home-strip bs l (pos (natAbs h))
 
+-- the last strip of the edge of a name: that of its eastern end
 abbrev pub last-strip : List ℤ → Linework → ℤ → ℕ
 last-strip bs l h = home-strip bs l (negℤ (pos (natAbs h)))
 

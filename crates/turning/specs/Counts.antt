@@ -25,9 +25,11 @@ holding n t = filter (t .held) (names n)
 abbrev pub listed : ℕ → Turn → Turning ℤ
 listed n t = turning (holding n t) (t .follower) (t .predecessor)
 
+-- the next name along the loop: the one before the opposite about its start
 abbrev pub next : Turn → ℤ → ℤ
 next t h = t .predecessor (negℤ h)
 
+-- the name before along the loop
 abbrev pub previous : Turn → ℤ → ℤ
 previous t h = negℤ (t .follower h)
 
@@ -43,13 +45,15 @@ Same-loop t h k = Reach (next t ∷ []) h k
 abbrev pub Same-piece : Turn → ℤ → ℤ → Type 0
 Same-piece t h k = Reach (t .follower ∷ (negℤ ∷ [])) h k
 
--- the same three as tests
+-- the same as a test: k starts where h starts
 unfoldable pub same-round : ℕ → Turn → ℤ → ℤ → Bool
 same-round n t h k = linked equal (t .follower ∷ []) (holding n t) h k
 
+-- the same as a test: k lies on the loop of h
 unfoldable pub same-loop : ℕ → Turn → ℤ → ℤ → Bool
 same-loop n t h k = linked equal (next t ∷ []) (holding n t) h k
 
+-- the same as a test: k lies in the piece of h
 unfoldable pub same-piece : ℕ → Turn → ℤ → ℤ → Bool
 same-piece n t h k = linked equal (t .follower ∷ (negℤ ∷ [])) (holding n t) h k
 
@@ -57,15 +61,19 @@ same-piece n t h k = linked equal (t .follower ∷ (negℤ ∷ [])) (holding n t
 unfoldable pub rounds : ℕ → Turn → ℕ
 rounds n t = figure.rounds negℤ equal (listed n t)
 
+-- the loops of t: the rounds of its loop side
 abbrev pub loops : ℕ → Turn → ℕ
 loops n t = rounds n (side t)
 
+-- the edges of t: its names, two and two
 unfoldable pub edges : ℕ → Turn → ℕ
 edges n t = figure.edges negℤ equal (listed n t)
 
+-- the pieces of t
 unfoldable pub pieces : ℕ → Turn → ℕ
 pieces n t = figure.pieces negℤ equal (listed n t)
 
+-- vertices + loops = edges + 2 × pieces
 abbrev pub Flat : ℕ → Turn → Type 0
 Flat n t = rounds n t + loops n t ≡ edges n t + 2 * pieces n t
 

@@ -11,6 +11,7 @@ use Rattle.turning.specs.Turn.{Turn, Lawful}
 le-prop : (a b : ℤ) → IsProp (a ≤ℤ b)
 le-prop a b p q = λ i. record { le = T-prop _ (p .le) (q .le) i }
 
+-- two proofs that a turning is lawful are equal
 pub lawful-prop : (n : ℕ) (t : Turn) → IsProp (Lawful n t)
 lawful-prop n t p q = λ i. record {
   no-zero = Bool-set _ _ (p .no-zero) (q .no-zero) i;

@@ -6,6 +6,7 @@ use Prim.Native.Nat.{ℕ}
 use lib.IntN.{ℤ, pos, negsuc, negℤ}
 use lib.Signed.{_≤ℤ_}
 
+-- which names are held, and for each name its follower and its predecessor
 pub record Turn : Type 0 where
   pub held : ℤ → Bool
   pub follower : ℤ → ℤ

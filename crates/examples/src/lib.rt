@@ -239,7 +239,13 @@ mod tests {
         check(sheet.cleave(1, 4, Point { x: 2, y: 0 }))?;
         check_loop(&sheet, &[1, 4, -3, -2])?;
         check(sheet.lift(2))?;
-        check_eq(sheet.home(4, -3), Ok(Home { strip: 4, crossed: 0 }))?;
+        check_eq(
+            sheet.home(4, -3),
+            Ok(Home {
+                strip: 4,
+                crossed: 0,
+            }),
+        )?;
         check_eq(sheet.home(2, 2), Err(Refusal::NotThere))
     }
 }

@@ -47,7 +47,10 @@ fn hang<S: Store>(
 ) -> Result<(), AnyError> {
     let answer = yes_or_no(store.hang(edge, a, b));
     let (ax, ay, bx, by) = (a.point.x, a.point.y, b.point.x, b.point.y);
-    println!(rt, "hang {edge} between ({ax}, {ay}) and ({bx}, {by}): {answer}")?;
+    println!(
+        rt,
+        "hang {edge} between ({ax}, {ay}) and ({bx}, {by}): {answer}"
+    )?;
     Ok(())
 }
 
@@ -115,7 +118,11 @@ fn print_strip(rt: &impl Print, sheet: &Sheet, strip: u16) -> Result<u32, AnyErr
     print!(rt, "strip {strip}:")?;
     for h in -MAX_NAME..=MAX_NAME {
         if let Ok(home) = sheet.home(strip, h) {
-            let kind = if home.strip == strip { "home" } else { "external" };
+            let kind = if home.strip == strip {
+                "home"
+            } else {
+                "external"
+            };
             print!(rt, " {h:+} {kind}")?;
             slots = slots.saturating_add(1);
         }
@@ -164,7 +171,10 @@ fn cut_and_merge(
     )?;
     sheet.merge(merged);
     let answer = yes_or_no(equal(merged, table) && equal(sheet, table));
-    println!(rt, "merged into another table, the charts are equal: {answer}")?;
+    println!(
+        rt,
+        "merged into another table, the charts are equal: {answer}"
+    )?;
     Ok(())
 }
 

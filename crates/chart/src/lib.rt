@@ -8,7 +8,7 @@ ghost use Rattle.chart.specs.declared.point.Point.{Point};
 ghost use Rattle.chart.specs.declared.point.End.{End};
 ghost use Rattle.chart.specs.Linework.{Placed, lines-of};
 ghost use Rattle.chart.specs.Changes.{vertex-at};
-ghost use Rattle.chart.specs.Stores.{meant, Hangs, Lifts, Cleaves};
+ghost use Rattle.chart.specs.Stores.{Frame, meant, Hangs, Lifts, Cleaves};
 use point::End;
 use point::Point;
 use turning::Turning;
@@ -43,16 +43,18 @@ pub trait Chart: Turning {
     }
 }
 
-// A chart that can be changed. A no leaves the whole meaning; after a yes, which pairs fit is the store's own.
+// A chart that can be changed. A no leaves the whole meaning, a yes the frame; after it, which pairs fit is the store's own.
 pub trait Store: Chart {
+    ghost frame: { Self → Frame };
+
     ghost fits: { Self → Point → Point → Bool };
 
     fn hang(&mut self, edge: u16, a: End, b: End) -> bool
-        ensures { λ r. ⌜ Hangs max-edge (meant (Self·Turning .turn) (Self·Chart .points) fits (now (self .entry))) edge a b r (meant (Self·Turning .turn) (Self·Chart .points) fits (now (self .exit))) ⌝ };
+        ensures { λ r. ⌜ Hangs max-edge (meant (Self·Turning .turn) (Self·Chart .points) frame fits (now (self .entry))) edge a b r (meant (Self·Turning .turn) (Self·Chart .points) frame fits (now (self .exit))) ⌝ };
 
     fn lift(&mut self, edge: u16) -> bool
-        ensures { λ r. ⌜ Lifts (meant (Self·Turning .turn) (Self·Chart .points) fits (now (self .entry))) edge r (meant (Self·Turning .turn) (Self·Chart .points) fits (now (self .exit))) ⌝ };
+        ensures { λ r. ⌜ Lifts (meant (Self·Turning .turn) (Self·Chart .points) frame fits (now (self .entry))) edge r (meant (Self·Turning .turn) (Self·Chart .points) frame fits (now (self .exit))) ⌝ };
 
     fn cleave(&mut self, edge: u16, east: u16, at: Point) -> bool
-        ensures { λ r. ⌜ Cleaves max-edge (meant (Self·Turning .turn) (Self·Chart .points) fits (now (self .entry))) edge east at r (meant (Self·Turning .turn) (Self·Chart .points) fits (now (self .exit))) ⌝ };
+        ensures { λ r. ⌜ Cleaves max-edge (meant (Self·Turning .turn) (Self·Chart .points) frame fits (now (self .entry))) edge east at r (meant (Self·Turning .turn) (Self·Chart .points) frame fits (now (self .exit))) ⌝ };
 }

@@ -4,6 +4,11 @@ mod tests {
     use chart::Store;
     use chart::point::End;
     use chart::point::Point;
+    use edits::join;
+    use edits::remove;
+    use edits::split;
+    use edits::sprout;
+    use edits::start;
     use halfedges::halfedge::FREE;
     use questions::Counts;
     use questions::CountsDebug;
@@ -13,6 +18,14 @@ mod tests {
     use questions::loops::loop_length;
     use questions::loops::same_loop;
     use questions::pieces::same_piece;
+    use runs::calls::Answer;
+    use runs::calls::AnswerDebug;
+    use runs::calls::AnswerPartialEq;
+    use runs::calls::Call;
+    use runs::calls::Item;
+    use runs::sheets::SheetCall;
+    use runs::sheets::SheetItem;
+    use runs::sheets::run_both;
     use std::test::*;
     use strips::home::Home;
     use strips::home::HomeDebug;
@@ -247,5 +260,116 @@ mod tests {
             }),
         )?;
         check_eq(sheet.home(2, 2), Err(Refusal::NotThere))
+    }
+
+    // The triangle by edits, with every kind of refusal on the way.
+    fn edit_triangle<S: Store>(rt: &LibcRuntime, store: &mut S) -> Result<(), Fail> {
+        let heap = rt.alloc();
+        let mut marks = vec![in heap; 7u8; MARK_BYTES]?;
+        let mut line = vec![in heap; 7i16; LINE_NAMES]?;
+        let m = marks.as_mut_slice();
+        let l = line.as_mut_slice();
+        let p = Point { x: 2, y: 0 };
+        check_eq(start(store, 0, A, B), Err(Refusal::NumberOutOfRange))?;
+        check_eq(start(store, 1, A, A), Err(Refusal::SameEnds))?;
+        check_eq(start(store, 1, A, B), Ok(()))?;
+        check_eq(start(store, 1, C, p), Err(Refusal::NumberInUse))?;
+        check_eq(sprout(store, 2, 3, C), Err(Refusal::NotThere))?;
+        check_eq(sprout(store, 2, 1, B), Err(Refusal::PointTaken))?;
+        check_eq(sprout(store, 2, 1, C), Ok(()))?;
+        check_eq(
+            join(store, 3, -2, -1, &mut m[0..9], l),
+            Err(Refusal::ShortBuffers),
+        )?;
+        check_eq(join(store, 3, 1, 2, m, l), Err(Refusal::SameEnds))?;
+        check_eq(join(store, 3, -2, -1, m, l), Ok(()))?;
+        check_eq(
+            split(store, 1, 4, Point { x: 5, y: 0 }),
+            Err(Refusal::NotInside),
+        )?;
+        check_eq(split(store, 1, 4, p), Ok(()))?;
+        check_eq(join(store, 5, 4, 3, m, l), Err(Refusal::LoopsOfOnePiece))?;
+        check_eq(join(store, 5, 4, -2, m, l), Ok(()))?;
+        check_eq(remove(store, 6), Err(Refusal::NotThere))?;
+        check_eq(remove(store, 5), Ok(()))
+    }
+
+    #[test]
+    fn edits_on_a_table(rt: LibcRuntime) -> Result<(), Fail> {
+        let mut memory = vec![in rt.alloc(); FREE; SLOTS]?;
+        let mut table = Table::new(memory.as_mut_slice());
+        edit_triangle(&rt, &mut table)?;
+        check_loop(&table, &[1, 4, -3, -2])?;
+        check(is_flat(count_all(&rt, &table)?))
+    }
+
+    #[test]
+    fn edits_on_strips(rt: LibcRuntime) -> Result<(), Fail> {
+        let mut memory = vec![in rt.alloc(); FREE; SLOTS]?;
+        let mut sheet = Sheet::new(memory.as_mut_slice());
+        check_eq(sheet.cut(2), Ok(()))?;
+        edit_triangle(&rt, &mut sheet)?;
+        check_eq(sheet.cut(2), Err(Refusal::WrongBorder))?;
+        check_eq(sheet.cut(1_000_001), Err(Refusal::BorderOutOfRange))?;
+        check_eq(sheet.cut(3), Ok(()))?;
+        check_eq(sheet.strips(), 3)?;
+        check_loop(&sheet, &[1, 4, -3, -2])?;
+        check_eq(sheet.knit(2), Ok(()))?;
+        check_eq(sheet.knit(2), Err(Refusal::WrongBorder))?;
+        check_eq(sheet.strips(), 2)?;
+        check_loop(&sheet, &[1, 4, -3, -2])
+    }
+
+    fn pending(call: Call) -> Item {
+        Item {
+            call,
+            answer: Answer::Pending,
+        }
+    }
+
+    fn on_sheet(call: SheetCall) -> SheetItem {
+        SheetItem {
+            call,
+            answer: Answer::Pending,
+        }
+    }
+
+    fn first() -> Call {
+        Call::Start {
+            edge: 1,
+            p: A,
+            q: B,
+        }
+    }
+
+    fn second() -> Call {
+        Call::Sprout {
+            edge: 2,
+            corner: 1,
+            p: C,
+        }
+    }
+
+    #[test]
+    fn a_sheet_and_a_table_answer_alike(rt: LibcRuntime) -> Result<(), Fail> {
+        let mut memory = vec![in rt.alloc(); FREE; SLOTS]?;
+        let mut strips = vec![in rt.alloc(); FREE; SLOTS]?;
+        let mut table = Table::new(memory.as_mut_slice());
+        let mut sheet = Sheet::new(strips.as_mut_slice());
+        let mut items = [pending(first()), pending(second()), pending(second())];
+        let mut calls = [
+            on_sheet(SheetCall::Edit(first())),
+            on_sheet(SheetCall::Cut(2)),
+            on_sheet(SheetCall::Edit(second())),
+            on_sheet(SheetCall::Knit(3)),
+            on_sheet(SheetCall::Edit(second())),
+        ];
+        run_both(&mut sheet, &mut calls, &mut table, &mut items);
+        check_eq(items[2].answer, Answer::Refused(Refusal::NumberInUse))?;
+        check_eq(calls[1].answer, Answer::Done)?;
+        check_eq(calls[3].answer, Answer::Refused(Refusal::WrongBorder))?;
+        check_eq(calls[4].answer, items[2].answer)?;
+        check_loop(&sheet, &[2, -2, 1, -1])?;
+        check_loop(&table, &[2, -2, 1, -1])
     }
 }

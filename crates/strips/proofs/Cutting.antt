@@ -21,11 +21,11 @@ pub strip-none : (x : ℤ) → strip-of [] x ≡ 1
 unfolding strip-of
 strip-none x = refl
 
-strip-west : (b : ℤ) (bs : List ℤ) (x : ℤ) → ltZ x b ≡ true → strip-of (b ∷ bs) x ≡ 1
+pub strip-west : (b : ℤ) (bs : List ℤ) (x : ℤ) → ltZ x b ≡ true → strip-of (b ∷ bs) x ≡ 1
 unfolding strip-of
 strip-west b bs x e = cond-true _ _ _ e
 
-strip-east : (b : ℤ) (bs : List ℤ) (x : ℤ) → ltZ x b ≡ false → strip-of (b ∷ bs) x ≡ suc (strip-of bs x)
+pub strip-east : (b : ℤ) (bs : List ℤ) (x : ℤ) → ltZ x b ≡ false → strip-of (b ∷ bs) x ≡ suc (strip-of bs x)
 unfolding strip-of
 strip-east b bs x e = cond-false _ _ _ e
 
@@ -71,7 +71,7 @@ pub strip-more : (bs : List ℤ) (x : ℤ) (i : ℕ) → i < length bs → ltZ x
 strip-more bs x i l e = ap (λ cs. strip-of cs x) (drop-more bs i (pos 0) l) ∙ strip-east _ _ x e
 
 -- ---- borders that rise
-rise-parts : (last b : ℤ) (bs : List ℤ) → rise-after last (b ∷ bs) ≡ true → (within b ≡ true) × (ltZ last b ≡ true) × (rise-after b bs ≡ true)
+pub rise-parts : (last b : ℤ) (bs : List ℤ) → rise-after last (b ∷ bs) ≡ true → (within b ≡ true) × (ltZ last b ≡ true) × (rise-after b bs ≡ true)
 rise-parts last b bs r =
     let p = and-parts (within b && ltZ last b) (rise-after b bs) r in
     let q = and-parts (within b) (ltZ last b) (p .0) in

@@ -25,7 +25,7 @@ use Rattle.halfedges.specs.Nothing.{short-lines}
 use Rattle.halfedges.proofs.Counted.{count-none, used-within}
 use Rattle.table.proofs.Taken.{empty-lines}
 use Rattle.strips.specs.Borders.{rising, strip-count, slots-taken}
-use Rattle.strips.specs.Cuts.{border-questions, may-cut}
+use Rattle.strips.specs.Cuts.{border-questions}
 use Rattle.strips.specs.Answers.{layout-questions}
 use Rattle.strips.specs.Sheets.{Kept, room-of}
 use Rattle.strips.proofs.Planting.{edges-within}
@@ -70,9 +70,6 @@ passed bs xs e = go (leb (strip-count bs) max-strips) (rising bs) refl refl e
 pub all-yes : (bs : List ℤ) (l : Linework) (room : ℕ) → leb (strip-count bs) max-strips ≡ true → rising bs ≡ true → slots-taken bs l max-edge ≤ room → _≡_ {A = Result (Unit {0}) Refusal} (Ok tt) (asked (layout-questions bs l room) tt)
 all-yes bs l room a b c =
     sym (cond-true (leb (strip-count bs) max-strips) _ _ a ∙ cond-true (rising bs) _ _ b ∙ cond-true (leb (slots-taken bs l max-edge) room) _ _ (le-leb _ _ c))
-
-pub cut-both : (bs : List ℤ) → leb (strip-count bs) max-strips ≡ true → rising bs ≡ true → may-cut bs ≡ true
-cut-both bs a b = ap (λ t. t && rising bs) a ∙ b
 
 no-edges : edge-count max-edge no-turn ≡ 0
 unfolding edge-count

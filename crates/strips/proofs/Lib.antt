@@ -3,9 +3,12 @@ pub mod Spans
 pub mod Totals
 pub mod Gains
 pub mod Keeping
+pub mod Planting
 pub mod Lifting
 pub mod Cleaving
 pub mod Standing
+pub mod Stitching
+pub mod Bordering
+pub mod Sewing
 pub mod Homes
-pub mod Planting
 pub mod Laying

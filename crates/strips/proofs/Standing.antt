@@ -13,7 +13,7 @@ use lib.ListN.{length}
 use Rattle.std.specs.declared.option.Option.{Option}
 use Rattle.std.specs.declared.option.Option.the-variants.{Some, None}
 use Rattle.std.proofs.shelf.Ways.{leb-tells}
-use Rattle.std.proofs.shelf.Tests.{leb-true, cond-true, cond-false, both-ways, and-parts}
+use Rattle.std.proofs.shelf.Tests.{leb-true, le-leb, cond-true, cond-false, both-ways, and-parts}
 use Rattle.flat.specs.Orbits.{indicator}
 use Rattle.turning.specs.Limits.{max-edge, slots}
 use Rattle.chart.specs.declared.point.Point.{Point}
@@ -21,6 +21,7 @@ use Rattle.chart.specs.declared.point.End.{End}
 use Rattle.chart.specs.Changes.{western, eastern, may-hang, may-cleave}
 use Rattle.chart.specs.Points.{west}
 use Rattle.chart.specs.Linework.{no-lines}
+use Rattle.chart.specs.Stores.{Frame}
 use Rattle.laws.specs.Keeps.{Sound}
 use Rattle.laws.specs.Rotations.{Ends, Cuts}
 use Rattle.laws.proofs.Cleft.{cleave-cuts}
@@ -30,9 +31,10 @@ use Rattle.halfedges.specs.View.{seen, Lent}
 use Rattle.halfedges.specs.Rows.{turn-of, points-of, lines-in, used, Blank}
 use Rattle.halfedges.specs.Nothing.{short-lines, nothing-sound}
 use Rattle.halfedges.proofs.Blank.{none-held, blank-lines, blank-core, blank-used, blank-slots, blank-unlinked}
+use Rattle.halfedges.proofs.Counted.{used-within}
 use Rattle.halfedges.proofs.Props.{core-prop}
 use Rattle.strips.specs.Borders.{strip-of, apart, runs-through, slots-taken}
-use Rattle.strips.specs.Sheets.{Stripped, Kept, room-of, fits-of}
+use Rattle.strips.specs.Sheets.{Stripped, Kept, room-of, frame-of, fits-of}
 
 stripped-prop : (bs : List ℤ) (rs : List Halfedge) → IsProp (Stripped max-edge slots bs rs)
 stripped-prop bs rs p q = λ i. record {
@@ -67,11 +69,41 @@ held-long rs h e = go (leb slots (length rs)) refl
     go true l = leb-true _ _ l
     go false l = absurd (both-ways _ (ap (λ x. x .turn .held h) (short-lines max-edge slots rs l)) e)
 
+-- a memory that is long enough before a change and after it has all its slots
+pub same-frame : (bs : List ℤ) (rs rs′ : List Halfedge) → slots ≤ length rs → Stripped max-edge slots bs rs′ → frame-of bs rs′ ≡ frame-of bs rs
+same-frame bs rs rs′ long after = ap (λ (k : ℕ). record { borders = bs; slots = k }) (whole rs′ (after .core .roomy .long) ∙ sym (whole rs long))
+  where
+    whole : (rs : List Halfedge) → slots ≤ length rs → room-of rs ≡ slots
+    whole rs l = cond-true (leb slots (length rs)) slots 0 (le-leb _ _ l)
+
 -- ---- no line work
 taken-none : (bs : List ℤ) (n : ℕ) → slots-taken bs no-lines n ≡ 0
 unfolding slots-taken
 taken-none bs zero = refl
 taken-none bs (suc n) = let rec = taken-none bs n in omega arith
+
+-- ---- slots
+-- no sheet has more slots than there are
+pub room-most : (rs : List Halfedge) → room-of rs ≤ slots
+room-most rs = go (leb slots (length rs))
+  where
+    go : (b : Bool) → cond b slots 0 ≤ slots
+    go true = omega arith
+    go false = omega arith
+
+-- nor do its edges take more
+pub taken-most : (bs : List ℤ) (rs : List Halfedge) → ∥ Kept bs rs ∥₁ → slots-taken bs (lines-in (seen rs)) max-edge ≤ slots
+taken-most bs rs p = go (leb slots (length rs)) refl
+  where
+    go : (b : Bool) → leb slots (length rs) ≡ b → slots-taken bs (lines-in (seen rs)) max-edge ≤ slots
+    go true e = let r = kept-out bs rs p (leb-true _ _ e) .room in let w = used-within slots (seen rs) in less (used slots (seen rs)) (slots-taken bs (lines-in (seen rs)) max-edge) slots r w
+      where
+        less : (u t s : ℕ) → u ≡ t → u ≤ s → t ≤ s
+        less u t s a b = omega arith
+    go false e = let z = ap (λ l. slots-taken bs l max-edge) (short-lines max-edge slots rs e) ∙ taken-none bs max-edge in none (slots-taken bs (lines-in (seen rs)) max-edge) slots z
+      where
+        none : (t s : ℕ) → t ≡ 0 → t ≤ s
+        none t s a = omega arith
 
 -- blank records are a stripped sheet, whatever its borders
 pub blank-stripped : (bs : List ℤ) (rs : List Halfedge) → Blank rs → slots ≤ length rs → Stripped max-edge slots bs rs

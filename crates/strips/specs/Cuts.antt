@@ -1,6 +1,6 @@
 -- Borders as they are kept and checked, and what their strips are. Assumes nothing.
 use mathlib.Core.Path.{_≡_}
-use mathlib.Core.Bool.{Bool, true, _&&_}
+use mathlib.Core.Bool.{true}
 use mathlib.Core.List.{List, [], _∷_}
 use mathlib.Core.Logic.{_⊎_, _↔_}
 use Prim.Native.Nat.{ℕ, _-_, _≤_}
@@ -29,10 +29,6 @@ listed (Err e) = Err e
 -- what is asked of borders before a sheet is cut there
 abbrev pub border-questions : List ℤ → Questions
 border-questions bs = (leb (strip-count bs) max-strips, TooManyStrips) ∷ (rising bs, BadBorders) ∷ []
-
--- borders that a sheet may have
-abbrev pub may-cut : List ℤ → Bool
-may-cut bs = leb (strip-count bs) max-strips && rising bs
 
 -- strip i has its western border and not its eastern one; the first strip has no western border, the last no eastern one
 abbrev pub Strip-is : Type 0

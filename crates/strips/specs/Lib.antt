@@ -2,4 +2,5 @@ pub mod Borders
 pub mod Cuts
 pub mod Sheets
 pub mod Recuts
+pub mod Seams
 pub mod Answers

@@ -13,7 +13,7 @@ use Rattle.turning.specs.Limits.{max-edge, slots}
 use Rattle.turning.specs.Props.{lawful-prop}
 use Rattle.turning.specs.Turn.{Lawful}
 use Rattle.chart.specs.declared.point.Point.{Point}
-use Rattle.chart.specs.Stores.{Meaning}
+use Rattle.chart.specs.Stores.{Frame, Meaning}
 use Rattle.halfedges.specs.declared.halfedge.Halfedge.{Halfedge}
 use Rattle.halfedges.specs.View.{view, seen, row-of}
 use Rattle.halfedges.specs.Rows.{turn-of, lines-in, used, Unlinked, Core, slot-count}
@@ -37,13 +37,17 @@ Kept bs rs = slots ≤ length rs → Stripped max-edge slots bs rs
 abbrev pub room-of : List Halfedge → ℕ
 room-of rs = cond (leb slots (length rs)) slots 0
 
+-- the borders, and the slots
+abbrev pub frame-of : List ℤ → List Halfedge → Frame
+frame-of bs rs = record { borders = bs; slots = room-of rs }
+
 -- which pairs of points fit
 abbrev pub fits-of : List ℤ → List Halfedge → Point → Point → Bool
 fits-of bs rs p q = fits-in max-edge bs (lines-in (seen rs)) (room-of rs) p q
 
--- what a sheet means as a store
-abbrev pub meaning : List ℤ → List Halfedge → Meaning
-meaning bs rs = record { lines = lines-in (seen rs); fits = fits-of bs rs }
+-- what a sheet means
+abbrev pub sheet-of : List ℤ → List Halfedge → Meaning
+sheet-of bs rs = record { lines = lines-in (seen rs); frame = frame-of bs rs; fits = fits-of bs rs }
 
 -- the line work of a sheet is lawful
 pub lawful-of : (bs : List ℤ) (rs : List Halfedge) → ∥ Kept bs rs ∥₁ → Lawful max-edge (turn-of (seen rs))

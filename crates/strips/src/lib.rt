@@ -5,5 +5,6 @@ pub mod home;
 pub mod laws;
 pub mod layout;
 mod recut;
+pub mod seams;
 pub mod sheet;
 mod taken;

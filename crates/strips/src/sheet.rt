@@ -6,16 +6,16 @@ ghost use Prim.Native.Nat.{_<_};
 ghost use lib.Dec.{leb};
 ghost use lib.ListN.{length};
 ghost use denote.Ref.{now as behind};
-ghost use Rattle.turning.specs.Limits.{max-edge, slots};
+ghost use Rattle.turning.specs.Limits.{slots};
 ghost use Rattle.turning.specs.Refusals.{asked};
 ghost use Rattle.turning.specs.declared.refusal.Refusal.the-variants.{ShortMemory};
 ghost use Rattle.chart.specs.declared.point.Point.{Point};
 ghost use Rattle.chart.specs.Linework.{no-lines};
-ghost use Rattle.chart.specs.Stores.{Hangs, Lifts, Cleaves};
 ghost use Rattle.halfedges.specs.View.{seen};
 ghost use Rattle.halfedges.specs.Rows.{turn-of, points-of, lines-in};
-ghost use Rattle.strips.specs.Cuts.{list-of, may-cut};
-ghost use Rattle.strips.specs.Sheets.{Kept, lawful-of, fits-of, meaning};
+ghost use Rattle.strips.specs.Borders.{rising};
+ghost use Rattle.strips.specs.Cuts.{list-of};
+ghost use Rattle.strips.specs.Sheets.{Kept, lawful-of, frame-of, fits-of};
 use crate::borders;
 use crate::borders::Borders;
 use crate::borders::strip_of;
@@ -43,8 +43,8 @@ use turning::refusal::Refusal;
 pub struct Sheet<'a> {
     pub(crate) rows: Rows<'a>,
     pub(crate) borders: Borders,
-    ghost cut: { may-cut (list-of borders) ≡ true },
     ghost ok: { ∥ Kept (list-of borders) (behind (rows .at)) ∥₁ },
+    ghost rises: { rising (list-of borders) ≡ true },
 }
 
 impl<'a> Sheet<'a> {
@@ -117,12 +117,11 @@ pub impl Chart for Sheet<'_> as SheetChart {
 }
 
 pub impl Store for Sheet<'_> as SheetStore {
+    ghost frame = { λ s. frame-of (list-of (s .borders)) (behind (s .rows .at)) };
+
     ghost fits = { λ s. fits-of (list-of (s .borders)) (behind (s .rows .at)) };
 
-    fn hang(&mut self, edge: u16, a: End, b: End) -> bool
-        ensures change { λ r. ⌜ Hangs max-edge (meaning (list-of (now (self .entry) .borders)) (now (now (self .entry) .rows .at))) edge a b r (meaning (list-of (now (self .exit) .borders)) (now (now (self .exit) .rows .at))) ⌝ }
-        ensures borders { λ _. ⌜ now (self .exit) .borders ≡ now (self .entry) .borders ⌝ }
-    {
+    fn hang(&mut self, edge: u16, a: End, b: End) -> bool {
         let fits = self.has_room(a.point, b.point);
         if !may_hang(self, edge, a, b, fits) {
             return false;
@@ -132,10 +131,7 @@ pub impl Store for Sheet<'_> as SheetStore {
         true
     }
 
-    fn lift(&mut self, edge: u16) -> bool
-        ensures change { λ r. ⌜ Lifts (meaning (list-of (now (self .entry) .borders)) (now (now (self .entry) .rows .at))) edge r (meaning (list-of (now (self .exit) .borders)) (now (now (self .exit) .rows .at))) ⌝ }
-        ensures borders { λ _. ⌜ now (self .exit) .borders ≡ now (self .entry) .borders ⌝ }
-    {
+    fn lift(&mut self, edge: u16) -> bool {
         if !holds_edge(self, edge) {
             return false;
         }
@@ -143,10 +139,7 @@ pub impl Store for Sheet<'_> as SheetStore {
         true
     }
 
-    fn cleave(&mut self, edge: u16, east: u16, at: Point) -> bool
-        ensures change { λ r. ⌜ Cleaves max-edge (meaning (list-of (now (self .entry) .borders)) (now (now (self .entry) .rows .at))) edge east at r (meaning (list-of (now (self .exit) .borders)) (now (now (self .exit) .rows .at))) ⌝ }
-        ensures borders { λ _. ⌜ now (self .exit) .borders ≡ now (self .entry) .borders ⌝ }
-    {
+    fn cleave(&mut self, edge: u16, east: u16, at: Point) -> bool {
         let fits = self.has_room(at, at);
         if !may_cleave(self, edge, east, at, fits) {
             return false;

@@ -2,7 +2,7 @@
 use mathlib.Core.Path.{_≡_, refl, sym, ap, subst, subst₂, _∙_}
 use mathlib.Core.Bool.{Bool, true, false, cond}
 use mathlib.Core.HLevel.{hedberg}
-use mathlib.Core.List.{List}
+use mathlib.Core.List.{List, []}
 use mathlib.Core.Logic.{∥∥₁-elim}
 use Prim.Native.Nat.{ℕ, suc, _+_, _*_, _≤_, _<_}
 use native.Mathlib.Decide.{ℕ-discrete}
@@ -14,11 +14,12 @@ use Rattle.std.specs.declared.option.Option.{Option}
 use Rattle.std.specs.declared.option.Option.the-variants.{Some, None}
 use Rattle.std.proofs.shelf.Ways.{leb-tells}
 use Rattle.std.proofs.shelf.Signed.{ints}
-use Rattle.std.proofs.shelf.Tests.{leb-true, cond-false, both-ways, and-parts}
+use Rattle.std.proofs.shelf.Tests.{leb-true, le-leb, cond-true, cond-false, both-ways, and-parts}
 use Rattle.turning.specs.Limits.{max-edge, slots}
 use Rattle.chart.specs.declared.point.Point.{Point}
 use Rattle.chart.specs.declared.point.End.{End}
 use Rattle.chart.specs.Changes.{at, put, western, eastern, may-hang, lifted, may-cleave, cleft}
+use Rattle.chart.specs.Stores.{Frame}
 use Rattle.laws.specs.Keeps.{Sound}
 use Rattle.laws.specs.Rotations.{Ends, Cuts}
 use Rattle.laws.proofs.Cleft.{cleave-cuts}
@@ -31,7 +32,7 @@ use Rattle.halfedges.specs.Rows.{turn-of, points-of, lines-in, used, edge-count
 use Rattle.halfedges.specs.Nothing.{short-lines, nothing-sound}
 use Rattle.halfedges.proofs.EdgeCount.{edge-more, edge-less, held-put}
 use Rattle.halfedges.proofs.Props.{core-prop}
-use Rattle.table.specs.Tables.{Good, Kept, room-of, fits-of}
+use Rattle.table.specs.Tables.{Good, Kept, room-of, frame-of, fits-of}
 
 kept-prop : (rs : List Halfedge) → IsProp (Kept rs)
 kept-prop rs p q = λ i l. record {
@@ -124,6 +125,13 @@ held-long rs h e = go (leb slots (length rs)) refl
     go : (b : Bool) → leb slots (length rs) ≡ b → slots ≤ length rs
     go true l = leb-true _ _ l
     go false l = absurd (both-ways _ (ap (λ x. x .turn .held h) (short-lines max-edge slots rs l)) e)
+
+-- a memory that is long enough before a change and after it has all its slots
+pub same-frame : (rs rs′ : List Halfedge) → slots ≤ length rs → Core max-edge slots rs′ → frame-of rs′ ≡ frame-of rs
+same-frame rs rs′ long after = ap (λ (k : ℕ). record { borders = []; slots = k }) (whole rs′ (after .roomy .long) ∙ sym (whole rs long))
+  where
+    whole : (rs : List Halfedge) → slots ≤ length rs → room-of rs ≡ slots
+    whole rs l = cond-true (leb slots (length rs)) slots 0 (le-leb _ _ l)
 
 -- ---- what a change may count on once it was asked for
 pub record Hangable (rs : List Halfedge) (e : ℕ) (a b : End) : Type 0 where

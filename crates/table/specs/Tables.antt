@@ -1,7 +1,7 @@
 -- What always holds of a table's memory, and which pairs of points fit. Assumes nothing.
 use mathlib.Core.Path.{_≡_, refl, sym, ap, subst}
 use mathlib.Core.Bool.{Bool, true, false, cond}
-use mathlib.Core.List.{List}
+use mathlib.Core.List.{List, []}
 use mathlib.Core.Logic.{∥∥₁-elim}
 use Prim.Native.Nat.{ℕ, _+_, _*_, _≤_}
 use lib.Dec.{leb}
@@ -11,6 +11,7 @@ use Rattle.turning.specs.Limits.{max-edge, slots}
 use Rattle.turning.specs.Props.{lawful-prop}
 use Rattle.turning.specs.Turn.{Turn, Lawful}
 use Rattle.chart.specs.declared.point.Point.{Point}
+use Rattle.chart.specs.Stores.{Frame}
 use Rattle.halfedges.specs.declared.halfedge.Halfedge.{Halfedge}
 use Rattle.halfedges.specs.View.{seen}
 use Rattle.halfedges.specs.Rows.{turn-of, used, edge-count, Core}
@@ -28,6 +29,10 @@ Kept rs = slots ≤ length rs → Good rs
 -- how many slots a table has: none where its memory is too short
 abbrev pub room-of : List Halfedge → ℕ
 room-of rs = cond (leb slots (length rs)) slots 0
+
+-- no borders, and the slots
+abbrev pub frame-of : List Halfedge → Frame
+frame-of rs = record { borders = []; slots = room-of rs }
 
 -- two more slots than the edges have still fit
 abbrev pub fits-of : List Halfedge → Point → Point → Bool

@@ -15,7 +15,7 @@ ghost use Rattle.chart.specs.declared.point.Point.{Point};
 ghost use Rattle.chart.specs.Linework.{no-lines};
 ghost use Rattle.halfedges.specs.View.{seen};
 ghost use Rattle.halfedges.specs.Rows.{turn-of, points-of, lines-in};
-ghost use Rattle.table.specs.Tables.{Kept, lawful-of, fits-of};
+ghost use Rattle.table.specs.Tables.{Kept, lawful-of, frame-of, fits-of};
 use chart::Chart;
 use chart::Store;
 use chart::asks::east_end;
@@ -111,6 +111,8 @@ pub impl Chart for Table<'_> as TableChart {
 }
 
 pub impl Store for Table<'_> as TableStore {
+    ghost frame = { λ t. frame-of (behind (t .rows .at)) };
+
     ghost fits = { λ t. fits-of (behind (t .rows .at)) };
 
     fn hang(&mut self, edge: u16, a: End, b: End) -> bool {

@@ -1,15 +1,19 @@
-// A tour of the engine: one parcel is drawn in a single table, walked and counted, laid out in strips, looked at strip by strip, and merged again. Each step is printed.
+// A tour of the engine: one parcel is drawn in a single table, walked and counted, laid out in strips, looked at strip by strip, and merged again; then it is edited in its strips, and the strips are cut and knit. Each step is printed.
 use chart::Chart;
 use chart::Store;
 use chart::point::End;
 use chart::point::Point;
 use chart::point::PointPartialEq;
+use edits::join;
+use edits::remove;
+use edits::split;
 use halfedges::halfedge::FREE;
 use questions::counting::counts;
 use questions::loops::loop_length;
 use std::error::AnyError;
 use strips::sheet::Sheet;
 use strips::sheet::SheetChart;
+use strips::sheet::SheetStore;
 use strips::sheet::SheetTurning;
 use table::Table;
 use table::TableChart;
@@ -23,6 +27,7 @@ use turning::limits::LINE_NAMES;
 use turning::limits::MARK_BYTES;
 use turning::limits::MAX_NAME;
 use turning::limits::SLOTS;
+use turning::refusal::Refusal;
 use turning::refusal::RefusalDebug;
 use turning::refusal::RefusalDisplay;
 use turning::refusal::RefusalError;
@@ -178,6 +183,38 @@ fn cut_and_merge(
     Ok(())
 }
 
+// Prints what a call answered.
+fn told(rt: &impl Print, call: &str, answer: Result<(), Refusal>) -> Result<(), AnyError> {
+    match answer {
+        Ok(()) => println!(rt, "{call}: done")?,
+        Err(refusal) => println!(rt, "{call}: {refusal}")?,
+    }
+    Ok(())
+}
+
+// Divides the parcel by an edge from its lower side to its top, cuts and knits the sheet under it, and takes the edge out again.
+fn edit(
+    rt: &impl Print,
+    sheet: &mut Sheet,
+    marks: &mut [u8],
+    line: &mut [i16],
+) -> Result<(), AnyError> {
+    let p = Point { x: 1, y: 0 };
+    told(rt, "split 1 at (1, 0)", split(sheet, 1, 4, p))?;
+    let outer = join(sheet, 5, 4, 3, marks, line);
+    told(rt, "join 5 after +4 and +3", outer)?;
+    let inner = join(sheet, 5, 4, -2, marks, line);
+    told(rt, "join 5 after +4 and -2", inner)?;
+    print_counts(rt, sheet, marks, line)?;
+    told(rt, "cut at x = 1", sheet.cut(1))?;
+    told(rt, "cut at x = 2", sheet.cut(2))?;
+    print_slots(rt, sheet)?;
+    told(rt, "knit at x = 2", sheet.knit(2))?;
+    told(rt, "remove 5", remove(sheet, 5))?;
+    told(rt, "remove 5", remove(sheet, 5))?;
+    print_loop(rt, sheet, 1)
+}
+
 fn tour(rt: &LibcRuntime) -> Result<(), AnyError> {
     let heap = rt.alloc();
     let mut memory = vec![in heap; FREE; SLOTS]?;
@@ -196,7 +233,8 @@ fn tour(rt: &LibcRuntime) -> Result<(), AnyError> {
     sheet.ready()?;
     let mut merged = Table::new(merged_memory.as_mut_slice());
     merged.ready()?;
-    cut_and_merge(rt, &table, &mut sheet, &mut merged)
+    cut_and_merge(rt, &table, &mut sheet, &mut merged)?;
+    edit(rt, &mut sheet, marks.as_mut_slice(), line.as_mut_slice())
 }
 
 fn main(rt: LibcRuntime) -> Result<(), AnyError> {

@@ -18,6 +18,18 @@ abbrev pub asked : {V : Type 0} → Questions → V → Result V Refusal
 asked [] v = Ok v
 asked ((answer, refusal) ∷ qs) v = cond answer (asked qs v) (Err refusal)
 
+-- done, or refused
+abbrev pub Outcome : Type 0
+Outcome = Result Unit Refusal
+
+-- the answer of a call that is done
+abbrev pub granted : Outcome
+granted = Ok tt
+
+-- the answer of a call that gives no value
+abbrev pub outcome : Questions → Outcome
+outcome qs = asked qs tt
+
 -- is each of the names there?
 abbrev pub there : Turn → List ℤ → Questions
 there t [] = []

@@ -10,7 +10,7 @@ use Rattle.halfedges.specs.declared.halfedge.Halfedge.{Halfedge}
 use Rattle.halfedges.specs.View.{seen}
 use Rattle.halfedges.specs.Rows.{lines-in}
 use Rattle.table.specs.Tables.{fits-of}
-use Rattle.table.proofs.Kept.{cleavable, ends-somewhere, cleft-good}
+use Rattle.table.proofs.Kept.{cleavable, ends-somewhere, cleft-good, same-frame}
 use Rattle.table.proofs.TableStore.cleave.Needs as need
 
 -- the room that was asked for is the table's own
@@ -22,6 +22,7 @@ pub returns-then-not-may-cleave : need.returns-then-not-may-cleave
 returns-then-not-may-cleave c = record {
   told = told (c .args .self .now .rows .at .now) (c .args .edge) (c .args .east) (c .args .at) (c .has-room-fits .result) _ (c .if-not-may-cleave .ensures tt) (c .has-room-fits .ensures);
   changed = λ t. absurd (false≢true t);
+  framed = λ t. absurd (false≢true t);
   kept = λ _. refl;
 }
 
@@ -53,5 +54,11 @@ pub returns : need.returns
 returns c = record {
   told = told (c .args .self .now .rows .at .now) (c .args .edge) (c .args .east) (c .args .at) (c .has-room-fits .result) true (c .if-not-may-cleave .ensures tt) (c .has-room-fits .ensures);
   changed = λ _. c .cleave-edge .ensures .lines;
+  framed = λ _.
+      let a = c .args in
+      let rs = a .self .now .rows .at .now in
+      let may = sym (told rs (a .edge) (a .east) (a .at) (c .has-room-fits .result) true (c .if-not-may-cleave .ensures tt) (c .has-room-fits .ensures)) in
+      let h = cleavable rs (a .self .now .ok) (a .edge) (a .east) (a .at) (c .in-Some .to) may (sym (c .east-end .ensures) ∙ c .in-Some .is) in
+      same-frame rs _ (h .good .core .roomy .long) (c .cleave-edge .ensures .core);
   kept = λ f. absurd (true≢false f);
 }

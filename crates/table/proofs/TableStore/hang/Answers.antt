@@ -11,7 +11,7 @@ use Rattle.halfedges.specs.declared.halfedge.Halfedge.{Halfedge}
 use Rattle.halfedges.specs.View.{seen}
 use Rattle.halfedges.specs.Rows.{lines-in, hung-between}
 use Rattle.table.specs.Tables.{fits-of}
-use Rattle.table.proofs.Kept.{hangable, hung-good}
+use Rattle.table.proofs.Kept.{hangable, hung-good, same-frame}
 use Rattle.table.proofs.TableStore.hang.Needs as need
 
 -- the room that was asked for is the table's own
@@ -23,6 +23,7 @@ pub returns-then-not-may-hang : need.returns-then-not-may-hang
 returns-then-not-may-hang c = record {
   told = told (c .args .self .now .rows .at .now) (c .args .edge) (c .args .a) (c .args .b) (c .has-room-fits .result) _ (c .if-not-may-hang .ensures tt) (c .has-room-fits .ensures);
   changed = λ t. absurd (false≢true t);
+  framed = λ t. absurd (false≢true t);
   kept = λ _. refl;
 }
 
@@ -49,5 +50,12 @@ pub returns : need.returns
 returns c = record {
   told = told (c .args .self .now .rows .at .now) (c .args .edge) (c .args .a) (c .args .b) (c .has-room-fits .result) true (c .if-not-may-hang .ensures tt) (c .has-room-fits .ensures);
   changed = λ _. c .hang-edge .ensures .lines ∙ ap₂ (λ x y. hung-between (c .args .edge) x y (lines-in (seen (c .args .self .now .rows .at .now)))) (c .west-to-east .ensures .west) (c .west-to-east .ensures .east);
+  framed = λ _.
+      let a = c .args in
+      let rs = a .self .now .rows .at .now in
+      let w = c .west-to-east in
+      let may = sym (told rs (a .edge) (a .a) (a .b) (c .has-room-fits .result) true (c .if-not-may-hang .ensures tt) (c .has-room-fits .ensures)) in
+      let h = hangable rs (a .self .now .ok) (a .edge) (a .a) (a .b) (w .result) may (w .ensures .west) (w .ensures .east) in
+      same-frame rs _ (h .good .core .roomy .long) (c .hang-edge .ensures .core);
   kept = λ f. absurd (true≢false f);
 }

@@ -3,10 +3,10 @@ use Prim.Native.Nat.{_≤_}
 use native.Mathlib.Omega.{arith}
 use Rattle.turning.specs.Limits.{max-edge}
 use Rattle.chart.specs.Linework.{lines-of}
-use Rattle.strips.specs.Borders.{slots-taken}
-use Rattle.strips.specs.Cuts.{list-of, may-cut}
+use Rattle.strips.specs.Borders.{rising, slots-taken}
+use Rattle.strips.specs.Cuts.{list-of}
 use Rattle.strips.specs.Sheets.{room-of}
-use Rattle.strips.proofs.Laying.{short-room, long-room, passed, all-yes, cut-both}
+use Rattle.strips.proofs.Laying.{short-room, long-room, passed, all-yes}
 use Rattle.strips.proofs.sheet.Sheet.layout.Needs as need
 use Rattle.strips.proofs.sheet.Sheet.layout.Needs.{then-self-lt-SLOTS, else-self-lt-SLOTS}
 
@@ -26,7 +26,7 @@ put-chart-requires g c κs =
 pub ghost-self : need.ghost-self
 ghost-self g c =
     let p = passed (c .args .borders .now) (list-of (c .in-Continue-cut .cut)) (c .in-Continue-cut .ensures tt) in
-    (ap may-cut (p .0) ∙ cut-both (c .args .borders .now) (p .1) (p .2), (∣ c .put-chart .ensures .kept ∣₁, tt))
+    (∣ c .put-chart .ensures .kept ∣₁, (ap rising (p .0) ∙ p .2, tt))
 
 pub returns : need.returns
 returns g c =

@@ -10,7 +10,8 @@ use Rattle.halfedges.specs.View.{seen}
 use Rattle.halfedges.specs.Rows.{lines-in}
 use Rattle.halfedges.specs.Nothing.{short-lines}
 use Rattle.halfedges.proofs.Blank.{blank-lines}
-use Rattle.strips.specs.Cuts.{list-of, may-cut}
+use Rattle.strips.specs.Borders.{rising}
+use Rattle.strips.specs.Cuts.{list-of}
 use Rattle.strips.specs.Sheets.{Stripped, Kept}
 use Rattle.strips.proofs.Standing.{blank-stripped}
 use Rattle.strips.proofs.sheet.Sheet.new.Needs as need
@@ -28,7 +29,7 @@ ghost-result c =
           subst (Stripped max-edge slots bs) is (blank-stripped bs freed (w .free-all .ensures) l)
       | else-memory-ge-SLOTS w ↦ λ long. absurd (let short = w .if-memory-ge-SLOTS .left in let same = ap length (w .memory-is) in omega arith)
     ] in
-    (ap may-cut (c .none .ensures), (∣ kept ∣₁, tt))
+    (∣ kept ∣₁, (ap rising (c .none .ensures), tt))
 
 pub returns : need.returns
 returns c =

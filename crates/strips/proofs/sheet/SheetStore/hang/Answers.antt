@@ -1,4 +1,6 @@
-use mathlib.Core.Path.{_≡_, sym, ap, _∙_}
+use mathlib.Core.Path.{_≡_, sym, ap, ap₂, _∙_}
+use borrow.Author.Needs.{needs}
+use Rattle.std.proofs.shelf.Tests.{true≢false}
 use mathlib.Core.Bool.{Bool, true}
 use mathlib.Core.List.{List}
 use Prim.Native.Nat.{ℕ}
@@ -8,10 +10,10 @@ use Rattle.chart.specs.declared.point.End.{End}
 use Rattle.chart.specs.Changes.{may-hang}
 use Rattle.halfedges.specs.declared.halfedge.Halfedge.{Halfedge}
 use Rattle.halfedges.specs.View.{seen}
-use Rattle.halfedges.specs.Rows.{lines-in}
+use Rattle.halfedges.specs.Rows.{lines-in, hung-between}
 use Rattle.strips.specs.Cuts.{list-of}
 use Rattle.strips.specs.Sheets.{fits-of}
-use Rattle.strips.proofs.Standing.{hangable}
+use Rattle.strips.proofs.Standing.{hangable, same-frame}
 use Rattle.strips.proofs.sheet.SheetStore.hang.Needs as need
 
 -- the room that was asked for is the sheet's own
@@ -31,4 +33,20 @@ hang-through-requires c κs =
     record { stripped = h .stripped; ends = h .ends; room = h .room }
 
 pub ghost-self : need.ghost-self
-ghost-self c = (c .args .self .now .cut, (∣ (λ _. c .hang-through .ensures .stripped) ∣₁, tt))
+ghost-self c = (∣ (λ _. c .hang-through .ensures .stripped) ∣₁, (c .args .self .now .rises, tt))
+
+pub returns : need.returns
+returns c = record {
+  told = told (list-of (c .args .self .now .borders)) (c .args .self .now .rows .at .now) (c .args .edge) (c .args .a) (c .args .b) (c .has-room-fits .result) true (c .if-not-may-hang .ensures tt) (c .has-room-fits .ensures);
+  changed = λ _. c .hang-through .ensures .lines ∙ ap₂ (λ x y. hung-between (c .args .edge) x y (lines-in (seen (c .args .self .now .rows .at .now)))) (c .west-to-east .ensures .west) (c .west-to-east .ensures .east);
+  framed = λ _.
+      let a = c .args in
+      let s = a .self .now in
+      let bs = list-of (s .borders) in
+      let rs = s .rows .at .now in
+      let w = c .west-to-east in
+      let may = sym (told bs rs (a .edge) (a .a) (a .b) (c .has-room-fits .result) true (c .if-not-may-hang .ensures tt) (c .has-room-fits .ensures)) in
+      let h = hangable bs rs (s .ok) (a .edge) (a .a) (a .b) (w .result) may (w .ensures .west) (w .ensures .east) in
+      same-frame bs rs _ (h .stripped .core .roomy .long) (c .hang-through .ensures .stripped);
+  kept = λ f. absurd (true≢false f);
+}

@@ -1,0 +1,4 @@
+pub mod Chains
+pub mod Runs
+pub mod Sheets
+pub mod Agreed

@@ -1,0 +1,11 @@
+pub mod Places
+pub mod Bytes
+pub mod Strips
+pub mod Layout
+pub mod Shapes
+pub mod Views
+pub mod Questions
+pub mod Lines
+pub mod Judged
+pub mod Verdict
+pub mod Specimens

@@ -1,0 +1,3 @@
+pub mod SideMarks
+pub mod HomeMarks
+pub mod Numbering

@@ -1,4 +1,6 @@
 // What the benchmarks in bench/ call from Rust: a chain of edges in a table or in strips, and a walk along its one loop.
+#![tactic(auto)]
+
 use chart::Store;
 use chart::point::{End, Point};
 use halfedges::halfedge::{FREE, Halfedge};

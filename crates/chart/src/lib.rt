@@ -1,4 +1,6 @@
 // Charts: turnings that tell points. Stores: charts that can be changed.
+#![tactic(auto)]
+
 ghost use Rattle.std.specs.Prelude.{◌≡◌, Bool, true, false, ℤ, Option};
 ghost use Rattle.turning.specs.Limits.{max_edge};
 ghost use Rattle.chart.specs.declared.point.Point.{Point};

@@ -1,4 +1,6 @@
 // The five edits of any store. Whatever the arguments, a call answers done or one refusal; a refusal changes nothing.
+#![tactic(auto)]
+
 ghost use Rattle.std.specs.Prelude.{◌≡◌, true, cond, ℤ, pos, Ok, Err};
 ghost use Rattle.turning.specs.Limits.{max_edge, marks_for, line_for};
 ghost use Rattle.turning.specs.declared.refusal.Refusal.TheVariants.{LoopsOfOnePiece};

@@ -1,4 +1,6 @@
 // Worked examples as tests: small drawings in a table and in strips, walked, counted and laid out.
+#![tactic(auto)]
+
 #[cfg(test)]
 mod tests {
     use chart::Store;

@@ -1,4 +1,6 @@
 // Small figures, computed from the definitions. Each function's contract is one statement of specs/Figures.antt; none does anything.
+#![tactic(auto)]
+
 ghost use Rattle.figures.specs.Figures.{EdgeIs, TriangleIs, SquareIs, HalvedIs, JoinedIs, ChangedIs, TorusIs, TwistedIs, ThetaIs, GridIs};
 
 pub fn edge_stands() -> u8

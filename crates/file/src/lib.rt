@@ -1,4 +1,6 @@
 // Inner: a file where the caller holds it: its numbers, its strips, the faults that its questions tell, and the questions asked of the whole file.
+#![tactic(auto)]
+
 pub mod convert;
 pub mod fault;
 pub mod le;

@@ -1,6 +1,8 @@
 // The combinatorics of flat turnings. Each function's contract is one theorem of specs/Theorems.antt; none does anything.
 // The theorems are proved for any type of names with a test for equality (proofs/Proved.antt). A contract is of Type 0, and so cannot
 // range over types: each is stated here at the whole numbers ℤ, told apart by `equal` and paired by `neg_ℤ`.
+#![tactic(auto)]
+
 ghost use Rattle.std.specs.Prelude.{ℤ, neg_ℤ};
 ghost use Rattle.flat.specs.Whole.{equal};
 ghost use Rattle.flat.specs.Theorems.{LinkedIsWalk, OrbitsCount, OrbitsFound, OrbitsOrder, SpliceOrbits, EdgesArePairs, Euler, SpliceOfTwo, SpliceOfOne, StartKeeps, SproutKeeps, JoinKeeps, HangKeeps, RemoveKeeps, CleaveKeeps, StartCounts, SproutCounts, JoinCounts, HangCounts, CleaveCounts, JoinIs, RemoveIs, CleaveIs, Alike, AnyHang, AnyHangCounts, AnyLift, AnyCleave, AnyCleaveCounts, TestIsLaw, TrailApart, TrailWhole, ClosedIsReach, FilterIs, PointsAreRounds};

@@ -1,5 +1,7 @@
 // A file judged where it stands: the first question that is answered no, with its strip and its place.
 // Working buffers are lent, of any length and content. Short ones are refused and left alone; others come back zero over the lengths that the questions need, whatever the answer.
+#![tactic(auto)]
+
 ghost use Rattle.std.specs.Prelude.{◌≡◌, length, replicate, pos};
 ghost use Rattle.turning.specs.Limits.{max_edge, marks_for, line_for};
 ghost use Rattle.search.specs.Buffers.{enough, given_back};

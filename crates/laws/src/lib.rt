@@ -1,4 +1,6 @@
 // What the changes of any store's line work keep: each function's contract is one theorem of specs/Keeps.antt or specs/Laws.antt; none does anything.
+#![tactic(auto)]
+
 ghost use Rattle.std.specs.Prelude.{ℕ};
 ghost use Rattle.laws.specs.Keeps.{LiftKeeps, HangKeeps, CleaveKeeps};
 ghost use Rattle.laws.specs.Laws.{Euler, HungFlat, HungCounts, LiftedFlat, CleftFlat, CleftCounts};

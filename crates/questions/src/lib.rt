@@ -1,5 +1,7 @@
 // Questions over any turning: how many vertices, edges, loops and pieces there are, and what lies together.
 // Working buffers are lent, of any length and content. Short ones are refused and left alone; others come back zero over the lengths that a search needs, whatever the answer.
+#![tactic(auto)]
+
 pub mod counting;
 pub mod loops;
 pub mod pieces;

@@ -1,5 +1,7 @@
 // A sheet read from bytes: the first question that is answered no, or the line work that the bytes tell.
 // Working buffers are lent, of any length and content. Short ones are refused and left alone; others come back zero over the lengths that the questions need, whatever the answer.
+#![tactic(auto)]
+
 ghost use Rattle.std.specs.Prelude.{◌≡◌, [], length, replicate, pos, nat_le};
 ghost use Rattle.turning.specs.Limits.{max_edge, slots, marks_for, line_for};
 ghost use Rattle.search.specs.Buffers.{enough, given_back};

@@ -1,4 +1,6 @@
 // Inner: the questions asked of the seams between the strips of a file.
+#![tactic(auto)]
+
 pub mod asked;
 mod beyond;
 mod homes;

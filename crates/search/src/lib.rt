@@ -1,4 +1,6 @@
 // Inner: walks and searches over any turning. Who calls them has asked that the names are held and that the buffers are long enough.
+#![tactic(auto)]
+
 pub mod edges;
 pub mod marks;
 pub mod pieces;

@@ -1,4 +1,6 @@
 // Worked examples, computed from the definitions at the real limits. The function's contract is the statement of specs/Examples.antt; it does nothing.
+#![tactic(auto)]
+
 ghost use Rattle.specimens.specs.Examples.{WorkedExamples};
 
 // All worked examples stand.

@@ -1,4 +1,6 @@
 // Inner: the questions asked of each strip of a file.
+#![tactic(auto)]
+
 pub mod asked;
 mod followed;
 pub mod names;

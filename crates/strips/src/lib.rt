@@ -1,4 +1,6 @@
 // Sheets in strips: borders cut a sheet from north to south, and each strip has its own slots.
+#![tactic(auto)]
+
 pub mod borders;
 mod changes;
 pub mod home;

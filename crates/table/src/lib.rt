@@ -1,4 +1,6 @@
 // The single table: a store in one lent slice of records, two slots an edge.
+#![tactic(auto)]
+
 ghost use Rattle.std.specs.Prelude.{◌≡◌, ℕ, ◌<◌, Bool, true, false, List, [], ◌∷◌, length, ℤ, Option, nat_le};
 ghost use Rattle.turning.specs.Limits.{max_edge, slots};
 ghost use Rattle.turning.specs.Refusals.{asked};

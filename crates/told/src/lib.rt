@@ -1,4 +1,6 @@
 // What an accepted file is. Each function's contract is one theorem of specs/Theorems.antt; none does anything.
+#![tactic(auto)]
+
 ghost use Rattle.told.specs.Theorems.{AcceptedTells, ToldAccepted, AcceptedExactly};
 
 pub fn accepted_tells_stands() -> u8

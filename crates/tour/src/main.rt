@@ -1,4 +1,6 @@
 // A tour of the engine: one parcel is drawn in a single table, walked and counted, laid out in strips, looked at strip by strip, and merged again; then it is edited in its strips, and the strips are cut and knit. Each step is printed.
+#![tactic(auto)]
+
 use chart::point::{End, Point};
 use chart::{Chart, Store};
 use edits::{join, remove, split};

@@ -1,4 +1,6 @@
 // Turnings: names that go in pairs, turned about the vertices where they start, and their loop side.
+#![tactic(auto)]
+
 ghost use Rattle.std.specs.Prelude.{◌≡◌, ℤ, pos, neg_ℤ};
 ghost use Rattle.turning.specs.Limits.{max_edge};
 ghost use Rattle.turning.specs.Turn.{Turn, Lawful, side};

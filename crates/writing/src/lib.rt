@@ -1,4 +1,6 @@
 // The bytes of a sheet.
+#![tactic(auto)]
+
 mod arrays;
 mod gather;
 pub mod laws;

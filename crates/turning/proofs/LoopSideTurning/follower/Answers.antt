@@ -4,8 +4,8 @@ use Rattle.std.proofs.lemmas.Bool.{cond-true}
 use Rattle.turning.proofs.Names.{minus_back}
 use Rattle.turning.proofs.LoopSideTurning.follower.Goals as goal
 
-pub overflow-sub-opposite : goal.overflow-sub-opposite
-overflow-sub-opposite g c =
+pub overflow_sub-opposite : goal.overflow_sub-opposite
+overflow_sub-opposite g c =
     let l = g.T.Turning.lawful c.args.self.now.below in
     let e : (g.T.Turning.turn c.args.self.now.below).held c.args.h ≡ true = grind (arith, to_z-of_z) in
     omega (arith, ints, l.low c.args.h e, l.high c.args.h e)

@@ -4,8 +4,8 @@ use Rattle.std.proofs.lemmas.Bool.{cond-true}
 use Rattle.turning.proofs.Names.{minus_back}
 use Rattle.turning.proofs.LoopSideTurning.predecessor.Goals as goal
 
-pub overflow-sub-result : goal.overflow-sub-result
-overflow-sub-result g c =
+pub overflow_sub-result : goal.overflow_sub-result
+overflow_sub-result g c =
     let l = g.T.Turning.lawful c.args.self.now.below in
     let e : (g.T.Turning.turn c.args.self.now.below).held c.follower-after.result ≡ true = grind (arith, to_z-of_z, l.ahead) in
     omega (arith, ints, l.low c.follower-after.result e, l.high c.follower-after.result e)

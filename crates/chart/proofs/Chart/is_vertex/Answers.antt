@@ -6,23 +6,23 @@ use Rattle.chart.specs.Points.{is_point}
 use Rattle.chart.specs.Linework.{lines_of}
 use Rattle.chart.proofs.Vertices.{Passed, vertex_found, vertex_none}
 use Rattle.chart.proofs.Chart.is_vertex.Goals as goal
-use Rattle.chart.proofs.Chart.is_vertex.Goals.{then-is-told-via-then-is-told, then-is-told-via-else-is-told+then-is-told-2}
+use Rattle.chart.proofs.Chart.is_vertex.Goals.{then-is_told-via-then-is_told, then-is_told-via-else-is_told+then-is_told-2}
 
 pub loop-e-init : goal.loop-e-init
 loop-e-init g c k l u = absurd (omega arith)
 
-pub returns-then-is-told : goal.returns-then-is-told
-returns-then-is-told g c =
+pub returns-then-is_told : goal.returns-then-is_told
+returns-then-is_told g c =
     let s = c.args.self.now in
     let p = c.args.p in
     let points = g.Self.Chart.points s in
     let small : c.loop-e.e < 2 ^ 15 = omega arith in
     let found = vertex_found max_edge (lines_of g.Self.Turning.turn g.Self.Chart.points s) (g.Self.Turning.lawful s) c.placed.ensures p in
-    elim c.then-is-told.branch [
-      | then-is-told-via-then-is-told w ↦ sym (found (pos c.loop-e.e)
-          (ap (λ h. is_point p (points h)) (sym (plus_name c.loop-e.e small)) ∙ ap (is_point p) (sym c.point.ensures) ∙ sym c.is-told.ensures ∙ w.if-is-told.true))
-      | then-is-told-via-else-is-told+then-is-told-2 w ↦ sym (found (neg_ℤ (pos c.loop-e.e))
-          (ap (λ h. is_point p (points h)) (sym (minus_name c.loop-e.e small)) ∙ ap (is_point p) (sym w.point-else-is-told.ensures) ∙ sym w.is-told-else-is-told.ensures ∙ w.if-is-told-2.true))
+    elim c.then-is_told.branch [
+      | then-is_told-via-then-is_told w ↦ sym (found (pos c.loop-e.e)
+          (ap (λ h. is_point p (points h)) (sym (plus_name c.loop-e.e small)) ∙ ap (is_point p) (sym c.point.ensures) ∙ sym c.is_told.ensures ∙ w.if-is_told.true))
+      | then-is_told-via-else-is_told+then-is_told-2 w ↦ sym (found (neg_ℤ (pos c.loop-e.e))
+          (ap (λ h. is_point p (points h)) (sym (minus_name c.loop-e.e small)) ∙ ap (is_point p) (sym w.point-else-is_told.ensures) ∙ sym w.is_told-else-is_told.ensures ∙ w.if-is_told-2.true))
     ]
 
 pub loop-e-preserved : goal.loop-e-preserved
@@ -31,8 +31,8 @@ loop-e-preserved g c k l u =
     let points = g.Self.Chart.points c.args.self.now in
     let e = c.loop-e.e in
     let small : e < 2 ^ 15 = omega arith in
-    let plus : is_point p (points (pos e)) ≡ false = ap (λ h. is_point p (points h)) (sym (plus_name e small)) ∙ ap (is_point p) (sym c.point.ensures) ∙ sym c.is-told.ensures ∙ c.if-is-told.false in
-    let minus : is_point p (points (neg_ℤ (pos e))) ≡ false = ap (λ h. is_point p (points h)) (sym (minus_name e small)) ∙ ap (is_point p) (sym c.point-else-is-told.ensures) ∙ sym c.is-told-else-is-told.ensures ∙ c.if-is-told-2.false in
+    let plus : is_point p (points (pos e)) ≡ false = ap (λ h. is_point p (points h)) (sym (plus_name e small)) ∙ ap (is_point p) (sym c.point.ensures) ∙ sym c.is_told.ensures ∙ c.if-is_told.false in
+    let minus : is_point p (points (neg_ℤ (pos e))) ≡ false = ap (λ h. is_point p (points h)) (sym (minus_name e small)) ∙ ap (is_point p) (sym c.point-else-is_told.ensures) ∙ sym c.is_told-else-is_told.ensures ∙ c.if-is_told-2.false in
     elim (cases_lt k e) [
       | inl b ↦ c.loop-e.invariant k l b
       | inr b ↦

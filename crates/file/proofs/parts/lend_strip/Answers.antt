@@ -13,8 +13,8 @@ sizes-requires c =
     let e = c.requires.0.count in
     omega (arith, c.loop-k.invariant.1, ap length c.loop-k.invariant.2)
 
-pub overflow-add-at-in-loop-k : goal.overflow-add-at-in-loop-k
-overflow-add-at-in-loop-k c =
+pub overflow_add-at-in-loop-k : goal.overflow_add-at-in-loop-k
+overflow_add-at-in-loop-k c =
     let w = sum_within (strip_length c.args.bytes.now) c.loop-k.k c.args.count (omega arith) in
     let l = c.requires.0.whole in
     let e = c.requires.0.count in

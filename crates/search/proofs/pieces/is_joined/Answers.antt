@@ -7,18 +7,18 @@ use Rattle.search.proofs.Floods.{clean_closed, clean_marks}
 use Rattle.search.proofs.Marking.{held_within, unmarked_clean}
 use Rattle.search.proofs.pieces.is_joined.Goals as goal
 
-pub mark-piece-requires : goal.mark-piece-requires
-mark-piece-requires g c =
+pub mark_piece-requires : goal.mark_piece-requires
+mark_piece-requires g c =
     let t = g.T.Turning.turn c.args.t.now in
     let bh = to_z-of_z w16 c.args.h c.ranges.h in
     let m = c.args.marks.now in
     simp bh (c.requires.0, (c.requires.1.0, (c.requires.1.1.1.0, (not_T_false (marked max_edge m c.args.h) (unmarked_clean max_edge m c.args.h c.requires.1.1.0), clean_closed max_edge t m c.requires.1.1.0))))
 
-pub is-marked-requires : goal.is-marked-requires
-is-marked-requires g c =
+pub is_marked-requires : goal.is_marked-requires
+is_marked-requires g c =
     let t = g.T.Turning.turn c.args.t.now in
     let bk = to_z-of_z w16 c.args.k c.ranges.k in
-    let long : length c.mark-piece.new.marks ≡ marks_for max_edge = omega (arith, c.requires.0) in
+    let long : length c.mark_piece.new.marks ≡ marks_for max_edge = omega (arith, c.requires.0) in
     (long, simp bk (held_within max_edge t (g.T.Turning.lawful c.args.t.now) c.args.k c.requires.1.1.1.1))
 
 pub returns : goal.returns
@@ -26,6 +26,6 @@ returns g c =
     let t = g.T.Turning.turn c.args.t.now in
     let bh = to_z-of_z w16 c.args.h c.ranges.h in
     let bk = to_z-of_z w16 c.args.k c.ranges.k in
-    let s : Spreads max_edge t (piece_steps t) c.args.h c.args.marks.now c.mark-piece.new.marks = simp bh at c.mark-piece.ensures in
-    let r : c.is-marked.result ≡ marked max_edge c.mark-piece.new.marks c.args.k = simp bk at c.is-marked.ensures in
-    r ∙ clean_marks max_edge t (g.T.Turning.lawful c.args.t.now) c.args.h c.requires.1.1.1.0 c.args.marks.now c.mark-piece.new.marks c.args.k c.requires.1.1.1.1 c.requires.1.1.0 s
+    let s : Spreads max_edge t (piece_steps t) c.args.h c.args.marks.now c.mark_piece.new.marks = simp bh at c.mark_piece.ensures in
+    let r : c.is_marked.result ≡ marked max_edge c.mark_piece.new.marks c.args.k = simp bk at c.is_marked.ensures in
+    r ∙ clean_marks max_edge t (g.T.Turning.lawful c.args.t.now) c.args.h c.requires.1.1.1.0 c.args.marks.now c.mark_piece.new.marks c.args.k c.requires.1.1.1.1 c.requires.1.1.0 s

@@ -66,16 +66,16 @@ module _ (t : Turn) (law : Lawful max_edge t) (h : ℤ) (e : t.held h ≡ true) 
   end_few : end ≤ line_for max_edge
   end_few = flood_few max_edge t law h e (But max_edge m₁ h) m l at end f
 
-pub offset-bounds-line-at : goal.offset-bounds-line-at
-offset-bounds-line-at g c =
+pub offset_bounds-line-at : goal.offset_bounds-line-at
+offset_bounds-line-at g c =
     let bh = to_z-of_z w16 c.args.h c.ranges.h in
     let few : c.loop-at.end ≤ line_for max_edge =
     end_few (g.T.Turning.turn c.args.t.now) (g.T.Turning.lawful c.args.t.now) c.args.h c.requires.1.1.0 c.note-end.new.marks c.loop-at.marks c.loop-at.line c.loop-at.at c.loop-at.end
     (simp bh at c.loop-at.invariant.0) c.loop-at-test.true in
     omega arith
 
-pub slice-copy-out·x : goal.slice-copy-out·x
-slice-copy-out·x g c =
+pub slice_copy_out-x : goal.slice_copy_out-x
+slice_copy_out-x g c =
     let bh = to_z-of_z w16 c.args.h c.ranges.h in
     let few : c.loop-at.end ≤ line_for max_edge =
     end_few (g.T.Turning.turn c.args.t.now) (g.T.Turning.lawful c.args.t.now) c.args.h c.requires.1.1.0 c.note-end.new.marks c.loop-at.marks c.loop-at.line c.loop-at.at c.loop-at.end
@@ -93,7 +93,7 @@ note-end-requires-in-loop-at g c =
     let f : Flood max_edge t c.args.h B c.loop-at.marks c.loop-at.line c.loop-at.at c.loop-at.end = simp bh at c.loop-at.invariant.0 in
     let e : t.held x ≡ true = x_held t law c.args.h c.requires.1.1.0 c.note-end.new.marks c.loop-at.marks c.loop-at.line c.loop-at.at c.loop-at.end f c.loop-at-test.true in
     let br = x_next t law c.args.h c.requires.1.1.0 c.note-end.new.marks c.loop-at.marks c.loop-at.line c.loop-at.at c.loop-at.end f c.loop-at-test.true
-    c.follower.result (record { sfits = c.follower.type-inv }) c.follower.ensures in
+    c.follower.result (record { sfits = c.follower.type_inv }) c.follower.ensures in
     let long : length c.loop-at.marks ≡ marks_for max_edge = omega (arith, c.requires.0) in
     let wide : length c.loop-at.line ≡ line_for max_edge = omega (arith, c.requires.1.0) in
     simp br (
@@ -107,8 +107,8 @@ note-end-requires-in-loop-at g c =
       ),
     )
 
-pub overflow-sub-x : goal.overflow-sub-x
-overflow-sub-x g c =
+pub overflow_sub-x : goal.overflow_sub-x
+overflow_sub-x g c =
     let bh = to_z-of_z w16 c.args.h c.ranges.h in
     x_sub (g.T.Turning.turn c.args.t.now) (g.T.Turning.lawful c.args.t.now) c.args.h c.requires.1.1.0 c.note-end.new.marks c.loop-at.marks c.loop-at.line c.loop-at.at c.loop-at.end
     (simp bh at c.loop-at.invariant.0) c.loop-at-test.true
@@ -123,7 +123,7 @@ note-end-requires-in-loop-at-2 g c =
     let f : Flood max_edge t c.args.h B c.loop-at.marks c.loop-at.line c.loop-at.at c.loop-at.end = simp bh at c.loop-at.invariant.0 in
     let e : t.held x ≡ true = x_held t law c.args.h c.requires.1.1.0 c.note-end.new.marks c.loop-at.marks c.loop-at.line c.loop-at.at c.loop-at.end f c.loop-at-test.true in
     let br = x_next t law c.args.h c.requires.1.1.0 c.note-end.new.marks c.loop-at.marks c.loop-at.line c.loop-at.at c.loop-at.end f c.loop-at-test.true
-    c.follower.result (record { sfits = c.follower.type-inv }) c.follower.ensures in
+    c.follower.result (record { sfits = c.follower.type_inv }) c.follower.ensures in
     let bm = x_minus t law c.args.h c.requires.1.1.0 c.note-end.new.marks c.loop-at.marks c.loop-at.line c.loop-at.at c.loop-at.end f c.loop-at-test.true in
     let long : length c.loop-at.marks ≡ marks_for max_edge = omega (arith, c.requires.0) in
     let wide : length c.loop-at.line ≡ line_for max_edge = omega (arith, c.requires.1.0) in
@@ -171,7 +171,7 @@ loop-at-preserved g c =
     let eh = c.requires.1.1.0 in
     let b = c.loop-at-test.true in
     let f : Flood max_edge t c.args.h (But max_edge m₁ c.args.h) m l at end = simp bh at c.loop-at.invariant.0 in
-    let br = x_next t law c.args.h eh m₁ m l at end f b c.follower.result (record { sfits = c.follower.type-inv }) c.follower.ensures in
+    let br = x_next t law c.args.h eh m₁ m l at end f b c.follower.result (record { sfits = c.follower.type_inv }) c.follower.ensures in
     let bm = x_minus t law c.args.h eh m₁ m l at end f b in
     let p : Noting max_edge t law c.args.h eh (But max_edge m₁ c.args.h) m m' l l' at end r (t.follower x) =
     note_first max_edge t law c.args.h eh (But max_edge m₁ c.args.h) m m' m'' l l' l'' at end r r' b (omega (arith, c.requires.0)) (omega (arith, c.requires.1.0)) f (simp br at c.note-end-in-loop-at.ensures) in

@@ -12,9 +12,9 @@ returns g c =
     let law = g.T.Turning.lawful c.args.t.now in
     let bh = to_z-of_z w16 c.args.h c.ranges.h in
     let e : t.held c.args.h ≡ true = sym (simp bh at c.if-not-holds.ensures) in
-    let d : marked max_edge c.args.marks.now c.args.h ≡ false = sym (simp bh at c.if-is-marked.ensures) in
-    let s : Spreads max_edge t (piece_steps t) c.args.h c.args.marks.now c.mark-piece.new.marks = simp bh at c.mark-piece.ensures in
+    let d : marked max_edge c.args.marks.now c.args.h ≡ false = sym (simp bh at c.if-is_marked.ensures) in
+    let s : Spreads max_edge t (piece_steps t) c.args.h c.args.marks.now c.mark_piece.new.marks = simp bh at c.mark_piece.ensures in
     record {
       visited = inr (and_from (t.held c.args.h) (not (marked max_edge c.args.marks.now c.args.h)) e (not_from_false (marked max_edge c.args.marks.now c.args.h) d), refl, s);
-      closed = spreads_closed max_edge t law c.args.h e c.args.marks.now c.mark-piece.new.marks c.requires.1.1.1 s;
+      closed = spreads_closed max_edge t law c.args.h e c.args.marks.now c.mark_piece.new.marks c.requires.1.1.1 s;
     }

@@ -11,7 +11,7 @@ pub loop-x-init : goal.loop-x-init
 loop-x-init g c =
     let f : ℤ → ℤ = (g.T.Turning.turn c.args.t.now).follower in
     let h : ℤ = to_z w16 (of_z w16 c.args.h) in
-    (h, 0, walked_start f h, to_z-of_z w16 c.follower-x.result (record { sfits = c.follower-x.type-inv }) ∙ c.follower-x.ensures, omega arith)
+    (h, 0, walked_start f h, to_z-of_z w16 c.follower-x.result (record { sfits = c.follower-x.type_inv }) ∙ c.follower-x.ensures, omega arith)
 
 -- the test has x among those that were met
 met : (g : Over) (c : goal.After-follower-x-in-loop-x g) → Walked (g.T.Turning.turn c.args.t.now).follower (to_z w16 (of_z w16 c.args.h)) c.loop-x.x c.loop-x.count
@@ -30,8 +30,8 @@ few g c =
     let bh = to_z-of_z w16 c.args.h c.ranges.h in
     walked_few max_edge (g.T.Turning.turn c.args.t.now) (g.T.Turning.lawful c.args.t.now) c.args.h c.requires c.loop-x.x c.loop-x.count (simp bh at (met g c))
 
-pub overflow-add-count : goal.overflow-add-count
-overflow-add-count g c = let l = few g c in omega arith
+pub overflow_add-count : goal.overflow_add-count
+overflow_add-count g c = let l = few g c in omega arith
 
 pub loop-x-smaller : goal.loop-x-smaller
 loop-x-smaller g c = let l = few g c in omega arith
@@ -39,7 +39,7 @@ loop-x-smaller g c = let l = few g c in omega arith
 pub loop-x-preserved : goal.loop-x-preserved
 loop-x-preserved g c =
     let f : ℤ → ℤ = (g.T.Turning.turn c.args.t.now).follower in
-    let br = to_z-of_z w16 c.follower-x-in-loop-x.result (record { sfits = c.follower-x-in-loop-x.type-inv }) in
+    let br = to_z-of_z w16 c.follower-x-in-loop-x.result (record { sfits = c.follower-x-in-loop-x.type_inv }) in
     (c.loop-x.x, c.loop-x.count, met g c, br ∙ c.follower-x-in-loop-x.ensures ∙ ap f c.loop-x.x-is, refl)
 
 pub returns : goal.returns

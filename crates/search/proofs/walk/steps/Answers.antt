@@ -16,7 +16,7 @@ returns-then-x-h g c =
     let bk = to_z-of_z w16 c.args.k c.ranges.k in
     let w : Walked f c.args.h c.loop-x.x c.loop-x.count = simp (bh, c.loop-x.x-is) at c.loop-x.invariant.0 in
     let back : f c.loop-x.x ≡ c.args.h =
-    sym (c.follower-x.ensures ∙ ap f c.loop-x.x-is) ∙ same_name c.follower-x.result c.args.h (record { sfits = c.follower-x.type-inv }) c.ranges.h c.if-x-h.true in
+    sym (c.follower-x.ensures ∙ ap f c.loop-x.x-is) ∙ same_name c.follower-x.result c.args.h (record { sfits = c.follower-x.type_inv }) c.ranges.h c.if-x-h.true in
     walked_past f c.args.h c.loop-x.x c.args.k c.loop-x.count w back
     (past_all f c.args.h c.args.k c.loop-x.x c.loop-x.count w (simp (bh, bk) at c.loop-x.invariant.1)
     (λ e. c.loop-x-test.true (bits_of _ c.args.k c.loop-x.auto.x (c.loop-x.x-is ∙ e))))
@@ -44,8 +44,8 @@ few : (g : Over) (c : goal.Else-x-h g) → c.loop-x.count + 1 < 2 * max_edge
 unfolding Stepped
 few g c = walked_few max_edge (g.T.Turning.turn c.args.t.now) (g.T.Turning.lawful c.args.t.now) c.args.h c.requires c.follower-x.result (c.loop-x.count + 1) (stepped g c).0
 
-pub overflow-add-count : goal.overflow-add-count
-overflow-add-count g c = let l = few g c in omega arith
+pub overflow_add-count : goal.overflow_add-count
+overflow_add-count g c = let l = few g c in omega arith
 
 pub loop-x-smaller : goal.loop-x-smaller
 loop-x-smaller g c = let l = few g c in omega arith
@@ -55,5 +55,5 @@ unfolding Stepped
 loop-x-preserved g c =
     let bh = to_z-of_z w16 c.args.h c.ranges.h in
     let bk = to_z-of_z w16 c.args.k c.ranges.k in
-    let br = to_z-of_z w16 c.follower-x.result (record { sfits = c.follower-x.type-inv }) in
+    let br = to_z-of_z w16 c.follower-x.result (record { sfits = c.follower-x.type_inv }) in
     simp (bh, bk, br) (stepped g c)

@@ -18,24 +18,24 @@ returns g c =
     let x = c.args.store.now in
     let ms = c.args.marks.now in
     let ls = c.args.line.now in
-    let i = c.if-marks-lt-MARK-BYTES.false in
-    let j = c.if-line-lt-LINE-NAMES.false in
+    let i = c.if-marks-lt-MARK_BYTES.false in
+    let j = c.if-line-lt-LINE_NAMES.false in
     let long : enough max_edge ms ls ≡ true = enough_both max_edge ms ls i j in
     let e = joins c.args.edge c.args.c c.args.d ms ls in
     let sound : Sound max_edge (m x).lines = (g.S.Turning.lawful x, c.placed.ensures) in
-    let done : Done max_edge (m x) e c.join-within.result (m c.join-within.new.store) =
-    join_whole max_edge (m x) (m c.join-within.new.store) c.args.edge c.args.c c.args.d _ _
-    (to_z-of_z w16 c.args.c c.ranges.c) (to_z-of_z w16 c.args.d c.ranges.d) ms ls long c.join-within.result c.join-within.ensures.done in
+    let done : Done max_edge (m x) e c.join_within.result (m c.join_within.new.store) =
+    join_whole max_edge (m x) (m c.join_within.new.store) c.args.edge c.args.c c.args.d _ _
+    (to_z-of_z w16 c.args.c c.ranges.c) (to_z-of_z w16 c.args.d c.ranges.d) ms ls long c.join_within.result c.join_within.ensures.done in
     record {
       done = done;
       flat = keeps_flat max_edge (m x) sound _ e _ done;
       judged = judges max_edge (m x) sound _ e _ done;
-      zero = wiped_part (marks_for max_edge) 0 ms c.join-within.new.marks i c.join-within.ensures.zero ∙ sym (cond-true (enough max_edge ms ls) _ _ long);
-      empty = wiped_part (line_for max_edge) (pos 0) ls c.join-within.new.line j c.join-within.ensures.empty ∙ sym (cond-true (enough max_edge ms ls) _ _ long);
+      zero = wiped_part (marks_for max_edge) 0 ms c.join_within.new.marks i c.join_within.ensures.zero ∙ sym (cond-true (enough max_edge ms ls) _ _ long);
+      empty = wiped_part (line_for max_edge) (pos 0) ls c.join_within.new.line j c.join_within.ensures.empty ∙ sym (cond-true (enough max_edge ms ls) _ _ long);
     }
 
-pub returns-then-marks-lt-MARK-BYTES : goal.returns-then-marks-lt-MARK-BYTES
-returns-then-marks-lt-MARK-BYTES g c =
+pub returns-then-marks-lt-MARK_BYTES : goal.returns-then-marks-lt-MARK_BYTES
+returns-then-marks-lt-MARK_BYTES g c =
     let m = meant g.S.Turning.turn g.S.Chart.points g.S.Store.frame g.S.Store.fits in
     let x = c.args.store.now in
     let e = joins c.args.edge c.args.c c.args.d c.args.marks.now c.args.line.now in

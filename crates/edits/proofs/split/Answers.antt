@@ -13,6 +13,6 @@ returns g c =
     let e = splits c.args.edge c.args.east c.args.p in
     let done : Done max_edge (m x) e c.said.result (m c.cleave.new.self) =
     rw c.said.ensures
-    (split_done max_edge (m x) c.args.east (sym c.if-not-is-number.ensures) (sym c.if-holds-edge.ensures) (m c.cleave.new.self) c.cleave.result
-    c.args.edge c.args.p (sym c.if-not-holds-edge.ensures) (sym c.if-not-is-free.ensures) (sym c.if-not-is-inside.ensures) c.cleave.ensures) in
+    (split_done max_edge (m x) c.args.east (sym c.if-not-is_number.ensures) (sym c.if-holds_edge.ensures) (m c.cleave.new.self) c.cleave.result
+    c.args.edge c.args.p (sym c.if-not-holds_edge.ensures) (sym c.if-not-is_free.ensures) (sym c.if-not-is_inside.ensures) c.cleave.ensures) in
     record { done = done; flat = keeps_flat max_edge (m x) (g.S.Turning.lawful x, c.placed.ensures) _ e _ done }

@@ -13,7 +13,7 @@ returns g c =
     let e = starts c.args.edge c.args.p c.args.q in
     let done : Done max_edge (m x) e c.said.result (m c.hang.new.self) =
     rw c.said.ensures
-    (start_done max_edge (m x) c.args.edge (sym c.if-not-is-number.ensures) (sym c.if-holds-edge.ensures) (m c.hang.new.self) c.hang.result
-    c.args.p c.args.q (sym c.if-not-is-free.ensures) (sym c.if-not-is-free-2.ensures) (sym c.if-is-same.ensures)
-    (subst₂ (λ a b. Hangs max_edge (m x) c.args.edge a b c.hang.result (m c.hang.new.self)) c.new-end.ensures c.new-end-2.ensures c.hang.ensures)) in
+    (start_done max_edge (m x) c.args.edge (sym c.if-not-is_number.ensures) (sym c.if-holds_edge.ensures) (m c.hang.new.self) c.hang.result
+    c.args.p c.args.q (sym c.if-not-is_free.ensures) (sym c.if-not-is_free-2.ensures) (sym c.if-is_same.ensures)
+    (subst₂ (λ a b. Hangs max_edge (m x) c.args.edge a b c.hang.result (m c.hang.new.self)) c.new_end.ensures c.new_end-2.ensures c.hang.ensures)) in
     record { done = done; flat = keeps_flat max_edge (m x) (g.S.Turning.lawful x, c.placed.ensures) _ e _ done }

@@ -15,4 +15,4 @@ returns g c =
     let bc = to_z-of_z w16 c.args.c c.ranges.c in
     let bd = to_z-of_z w16 c.args.d c.ranges.d in
     let s : Steps (side t).follower c.args.c c.args.d c.steps-found.result = simp (bc, bd) at c.steps-found.ensures in
-    c.is-some.ensures ∙ steps_tell max_edge (side t) (side_lawful max_edge t law) c.args.c c.args.d c.requires c.steps-found.result s ∙ side_test max_edge t law c.args.c c.args.d c.requires
+    c.is_some.ensures ∙ steps_tell max_edge (side t) (side_lawful max_edge t law) c.args.c c.args.d c.requires c.steps-found.result s ∙ side_test max_edge t law c.args.c c.args.d c.requires

@@ -5,14 +5,14 @@ use Rattle.chart.specs.Stores.{meant, Hangs}
 use Rattle.edits.proofs.Tables.{join_done, join_same}
 use Rattle.edits.proofs.joins.join_within.Goals as goal
 
-pub returns-then-is-same : goal.returns-then-is-same
-returns-then-is-same g c =
+pub returns-then-is_same : goal.returns-then-is_same
+returns-then-is_same g c =
     let m = meant g.S.Turning.turn g.S.Chart.points g.S.Store.frame g.S.Store.fits in
     record {
       done = record {
-        told = join_same max_edge (m c.args.store.now) c.args.edge (sym c.if-not-is-number.ensures) (sym c.if-holds-edge.ensures)
+        told = join_same max_edge (m c.args.store.now) c.args.edge (sym c.if-not-is_number.ensures) (sym c.if-holds_edge.ensures)
             c.args.c c.args.d _ _ (to_z-of_z w16 c.args.c c.ranges.c) (to_z-of_z w16 c.args.d c.ranges.d) _ _
-            c.in-Some.ensures c.in-Some-start-of.ensures (sym c.if-is-same.ensures);
+            c.in-Some.ensures c.in-Some-start_of.ensures (sym c.if-is_same.ensures);
         changed = refl;
       };
       zero = search rules;
@@ -25,9 +25,9 @@ returns g c =
     let x = c.args.store.now in
     record {
       done = rw c.said.ensures
-          (join_done max_edge (m x) c.args.edge (sym c.if-not-is-number.ensures) (sym c.if-holds-edge.ensures) (m c.hang.new.self) c.hang.result
+          (join_done max_edge (m x) c.args.edge (sym c.if-not-is_number.ensures) (sym c.if-holds_edge.ensures) (m c.hang.new.self) c.hang.result
           c.args.c c.args.d _ _ (to_z-of_z w16 c.args.c c.ranges.c) (to_z-of_z w16 c.args.d c.ranges.d) _ _
-          c.in-Some.ensures c.in-Some-start-of.ensures (sym c.if-is-same.ensures) (sym c.if-not-may-join.ensures)
+          c.in-Some.ensures c.in-Some-start_of.ensures (sym c.if-is_same.ensures) (sym c.if-not-may_join.ensures)
           (subst₂ (λ a b. Hangs max_edge (m x) c.args.edge a b c.hang.result (m c.hang.new.self)) c.after.ensures c.after-2.ensures c.hang.ensures));
       zero = search rules;
       empty = search rules;

@@ -11,17 +11,17 @@ returns g c =
     let lines = lines_of g.C.Turning.turn g.C.Chart.points chart in
     let lawful = g.C.Turning.lawful chart in
     let placed = c.placed.ensures in
-    let v = seen c.copy-edges.new.rows in
-    let copied = c.copy-edges.ensures.copied in
+    let v = seen c.copy_edges.new.rows in
+    let copied = c.copy_edges.ensures.copied in
     record {
       lines = copied_lines max_edge slots lines lawful placed _ c.requires.room v copied;
       core = record {
-        roomy = c.copy-edges.ensures.roomy;
+        roomy = c.copy_edges.ensures.roomy;
         indexed = copied_indexed max_edge slots lines lawful placed _ c.requires.room v copied;
         sound = copied_sound max_edge slots lines lawful placed _ c.requires.room v copied;
       };
       used = copied_used max_edge slots lines lawful placed _ c.requires.room v copied;
       homes = copied_homes max_edge slots lines lawful placed _ c.requires.room v copied;
       each = copied_each max_edge slots lines lawful placed _ c.requires.room v copied;
-      length = c.copy-edges.auto.rows ∙ c.free-all.auto.rows;
+      length = c.copy_edges.auto.rows ∙ c.free_all.auto.rows;
     }

@@ -7,7 +7,7 @@ use Rattle.halfedges.specs.Copies.{copied_edge, Copied}
 use Rattle.halfedges.proofs.Blank.{blank_core}
 use Rattle.halfedges.proofs.Copying.{CopiedTo, copied_blank, copied_skip, copied_more, copied_room, copied_same, held_to_all}
 use Rattle.halfedges.proofs.copy.copy_edges.Goals as goal
-use Rattle.halfedges.proofs.copy.copy_edges.Goals.{then-holds-edge, else-holds-edge}
+use Rattle.halfedges.proofs.copy.copy_edges.Goals.{then-holds_edge, else-holds_edge}
 
 pub loop-e-init : goal.loop-e-init
 loop-e-init g c i z =
@@ -16,8 +16,8 @@ loop-e-init g c i z =
     let same : 0 ≡ i = omega arith in
     (subst (λ j. CopiedTo lines j 0 (seen rs)) same (copied_blank lines (g.C.Turning.lawful c.args.chart.now) rs c.requires.blank c.requires.long), (blank_core rs c.requires.blank c.requires.long).roomy)
 
-pub copy-edge-requires : goal.copy-edge-requires
-copy-edge-requires g c =
+pub copy_edge-requires : goal.copy_edge-requires
+copy_edge-requires g c =
     let t = g.C.Turning.turn c.args.chart.now in
     let lines = lines_of g.C.Turning.turn g.C.Chart.points c.args.chart.now in
     let e = c.loop-e.e in
@@ -25,15 +25,15 @@ copy-edge-requires g c =
     let high : e ≤ max_edge = c.loop-e-test.true in
     let e-is : suc (e - 1) ≡ e = omega arith in
     let past = c.loop-e.invariant (e - 1) (sym e-is) in
-    let here : t.held (pos (suc (e - 1))) ≡ true = ap (λ k. t.held (pos k)) e-is ∙ sym c.if-holds-edge.ensures in
+    let here : t.held (pos (suc (e - 1))) ≡ true = ap (λ k. t.held (pos k)) e-is ∙ sym c.if-holds_edge.ensures in
     record {
       roomy = past.1;
       room = copied_room max_edge lines (g.C.Turning.lawful c.args.chart.now) (e - 1) c.loop-e.filled (seen c.loop-e.rows) past.0 slots (subst (λ k. k ≤ max_edge) (sym e-is) high) c.requires.room here;
       number = high;
     }
 
-pub overflow-add-filled : goal.overflow-add-filled
-overflow-add-filled g c =
+pub overflow_add-filled : goal.overflow_add-filled
+overflow_add-filled g c =
     let t = g.C.Turning.turn c.args.chart.now in
     let lines = lines_of g.C.Turning.turn g.C.Chart.points c.args.chart.now in
     let e = c.loop-e.e in
@@ -41,7 +41,7 @@ overflow-add-filled g c =
     let high : e ≤ max_edge = c.loop-e-test.true in
     let e-is : suc (e - 1) ≡ e = omega arith in
     let past = c.loop-e.invariant (e - 1) (sym e-is) in
-    let here : t.held (pos (suc (e - 1))) ≡ true = ap (λ k. t.held (pos k)) e-is ∙ sym c.if-holds-edge.ensures in
+    let here : t.held (pos (suc (e - 1))) ≡ true = ap (λ k. t.held (pos k)) e-is ∙ sym c.if-holds_edge.ensures in
     let room = copied_room max_edge lines (g.C.Turning.lawful c.args.chart.now) (e - 1) c.loop-e.filled (seen c.loop-e.rows) past.0 slots (subst (λ k. k ≤ max_edge) (sym e-is) high) c.requires.room here in
     omega arith
 
@@ -62,17 +62,17 @@ loop-e-preserved g c i z =
     let past = c.loop-e.invariant (e - 1) (sym e-is) in
     let v = seen c.loop-e.rows in
     let k = c.loop-e.filled in
-    let held : t.held (pos (suc (e - 1))) ≡ c.holds-edge.result = ap (λ m. t.held (pos m)) e-is ∙ sym c.holds-edge.ensures in
-    elim c.if-holds-edge.branch [
-      | then-holds-edge w ↦
-          let rs = w.copy-edge.new.rows in
-          let more = copied_more max_edge lines lawful (e - 1) k v past.0 (held ∙ w.if-holds-edge.true) in
-          let is : copied_edge lines (suc (e - 1)) k v ≡ seen rs = ap (λ m. copied_edge lines m k v) e-is ∙ sym w.copy-edge.ensures.view in
-          next lines (e - 1) i e (k + 2) c.if-holds-edge.filled rs c.if-holds-edge.rows e-is z (sym w.filled-is) (sym w.rows-is)
-          (subst (CopiedTo lines (suc (e - 1)) (k + 2)) is more) w.copy-edge.ensures.roomy
-      | else-holds-edge w ↦
-          next lines (e - 1) i e k c.if-holds-edge.filled c.loop-e.rows c.if-holds-edge.rows e-is z (sym w.filled-is) (sym w.rows-is)
-          (copied_skip max_edge lines lawful (e - 1) k v past.0 (held ∙ w.if-holds-edge.false)) past.1
+    let held : t.held (pos (suc (e - 1))) ≡ c.holds_edge.result = ap (λ m. t.held (pos m)) e-is ∙ sym c.holds_edge.ensures in
+    elim c.if-holds_edge.branch [
+      | then-holds_edge w ↦
+          let rs = w.copy_edge.new.rows in
+          let more = copied_more max_edge lines lawful (e - 1) k v past.0 (held ∙ w.if-holds_edge.true) in
+          let is : copied_edge lines (suc (e - 1)) k v ≡ seen rs = ap (λ m. copied_edge lines m k v) e-is ∙ sym w.copy_edge.ensures.view in
+          next lines (e - 1) i e (k + 2) c.if-holds_edge.filled rs c.if-holds_edge.rows e-is z (sym w.filled-is) (sym w.rows-is)
+          (subst (CopiedTo lines (suc (e - 1)) (k + 2)) is more) w.copy_edge.ensures.roomy
+      | else-holds_edge w ↦
+          next lines (e - 1) i e k c.if-holds_edge.filled c.loop-e.rows c.if-holds_edge.rows e-is z (sym w.filled-is) (sym w.rows-is)
+          (copied_skip max_edge lines lawful (e - 1) k v past.0 (held ∙ w.if-holds_edge.false)) past.1
     ]
 
 pub returns : goal.returns

@@ -5,7 +5,7 @@ use Rattle.turning.specs.Limits.{max_edge}
 use Rattle.halfedges.specs.Rows.{edge_count}
 use Rattle.halfedges.proofs.EdgeCount.{edges_none, edges_more}
 use Rattle.halfedges.proofs.copy.count_edges.Goals as goal
-use Rattle.halfedges.proofs.copy.count_edges.Goals.{then-holds-edge, else-holds-edge}
+use Rattle.halfedges.proofs.copy.count_edges.Goals.{then-holds_edge, else-holds_edge}
 
 -- one edge more is looked at
 counted : (t : Turn) (j e count count' : ℕ) (b : Bool) → suc j ≡ e → t.held (pos e) ≡ b → count' ≡ count + indicator b → (count ≡ edge_count j t) × (count ≤ j)
@@ -25,8 +25,8 @@ loop-e-init g c i z =
     let same : 0 ≡ i = omega arith in
     subst (λ k. (0 ≡ edge_count k t) × (0 ≤ k)) same (sym (edges_none t), omega arith)
 
-pub overflow-add-count : goal.overflow-add-count
-overflow-add-count g c =
+pub overflow_add-count : goal.overflow_add-count
+overflow_add-count g c =
     let low = c.loop-e.auto.e in
     let r = c.loop-e.invariant (c.loop-e.e - 1) (omega arith) in
     omega (arith, r.1)
@@ -38,10 +38,10 @@ loop-e-preserved g c i z =
     let low = c.loop-e.auto.e in
     let e-is : suc (e - 1) ≡ e = omega arith in
     let past = c.loop-e.invariant (e - 1) (sym e-is) in
-    let held : t.held (pos e) ≡ c.holds-edge.result = sym c.holds-edge.ensures in
-    elim c.if-holds-edge.branch [
-      | then-holds-edge w ↦ counted t (e - 1) e c.loop-e.count c.if-holds-edge.count true e-is (held ∙ w.if-holds-edge.true) w.count-is past i z
-      | else-holds-edge w ↦ counted t (e - 1) e c.loop-e.count c.if-holds-edge.count false e-is (held ∙ w.if-holds-edge.false) (w.count-is ∙ sym (add-zero c.loop-e.count)) past i z
+    let held : t.held (pos e) ≡ c.holds_edge.result = sym c.holds_edge.ensures in
+    elim c.if-holds_edge.branch [
+      | then-holds_edge w ↦ counted t (e - 1) e c.loop-e.count c.if-holds_edge.count true e-is (held ∙ w.if-holds_edge.true) w.count-is past i z
+      | else-holds_edge w ↦ counted t (e - 1) e c.loop-e.count c.if-holds_edge.count false e-is (held ∙ w.if-holds_edge.false) (w.count-is ∙ sym (add-zero c.loop-e.count)) past i z
     ]
 
 pub returns : goal.returns

@@ -7,11 +7,11 @@ use Rattle.halfedges.proofs.Cleaves.{rotation₀, held₀, fresh₀, room₀, ro
 use Rattle.turning.proofs.Names.{plus_fits, plus_name, minus_fits, minus_name, small, held_small}
 use Rattle.halfedges.proofs.edges.cleave_edge.Goals as goal
 
-pub overflow-cast-e : goal.overflow-cast-e
-overflow-cast-e c = plus_fits c.args.edge (held_small _ c.requires.core.sound.0 c.args.edge c.requires.cuts.here)
+pub overflow_cast-e : goal.overflow_cast-e
+overflow_cast-e c = plus_fits c.args.edge (held_small _ c.requires.core.sound.0 c.args.edge c.requires.cuts.here)
 
-pub overflow-sub-e : goal.overflow-sub-e
-overflow-sub-e c = minus_fits c.args.edge (held_small _ c.requires.core.sound.0 c.args.edge c.requires.cuts.here)
+pub overflow_sub-e : goal.overflow_sub-e
+overflow_sub-e c = minus_fits c.args.edge (held_small _ c.requires.core.sound.0 c.args.edge c.requires.cuts.here)
 
 pub bring-requires : goal.bring-requires
 bring-requires c =

@@ -7,11 +7,11 @@ use Rattle.halfedges.proofs.Hangs.{room₀, rotation₀, fresh₀, corner₀, ro
 use Rattle.turning.proofs.Names.{plus_fits, plus_name, minus_fits, minus_name, small}
 use Rattle.halfedges.proofs.edges.hang_edge.Goals as goal
 
-pub overflow-cast-e : goal.overflow-cast-e
-overflow-cast-e c = plus_fits c.args.edge (small _ c.requires.ends.high)
+pub overflow_cast-e : goal.overflow_cast-e
+overflow_cast-e c = plus_fits c.args.edge (small _ c.requires.ends.high)
 
-pub overflow-sub-e : goal.overflow-sub-e
-overflow-sub-e c = minus_fits c.args.edge (small _ c.requires.ends.high)
+pub overflow_sub-e : goal.overflow_sub-e
+overflow_sub-e c = minus_fits c.args.edge (small _ c.requires.ends.high)
 
 pub bring-requires : goal.bring-requires
 bring-requires c =

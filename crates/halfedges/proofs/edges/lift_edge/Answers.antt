@@ -5,11 +5,11 @@ use Rattle.halfedges.proofs.Lifts.{rotation₀, indexed₁, rotation₁, here₁
 use Rattle.turning.proofs.Names.{plus_fits, plus_name, minus_fits, minus_name, held_small}
 use Rattle.halfedges.proofs.edges.lift_edge.Goals as goal
 
-pub overflow-cast-e : goal.overflow-cast-e
-overflow-cast-e c = plus_fits c.args.edge (held_small _ c.requires.core.sound.0 c.args.edge c.requires.here)
+pub overflow_cast-e : goal.overflow_cast-e
+overflow_cast-e c = plus_fits c.args.edge (held_small _ c.requires.core.sound.0 c.args.edge c.requires.here)
 
-pub overflow-sub-e : goal.overflow-sub-e
-overflow-sub-e c = minus_fits c.args.edge (held_small _ c.requires.core.sound.0 c.args.edge c.requires.here)
+pub overflow_sub-e : goal.overflow_sub-e
+overflow_sub-e c = minus_fits c.args.edge (held_small _ c.requires.core.sound.0 c.args.edge c.requires.here)
 
 pub unhook-requires : goal.unhook-requires
 unhook-requires c =

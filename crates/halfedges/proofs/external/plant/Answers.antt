@@ -15,8 +15,8 @@ returns c =
     let rs' = c.write.new.rows in
     let v = seen rs in
     let k = c.args.k in
-    let s = c.free-slot-s.result in
-    let f = c.free-slot-s.ensures in
+    let s = c.free_slot-s.result in
+    let f = c.free_slot-s.ensures in
     let core = c.requires.core in
     let off = free_off slots v core.indexed core.sound.0.no_zero s f.low f.free in
     let r : Halfedge = record { strip = c.args.strip; name = k; follower = pos 0; predecessor = pos 0; x = pos 0; y = pos 0; index = [] } in

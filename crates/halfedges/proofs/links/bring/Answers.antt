@@ -10,10 +10,10 @@ pub returns : goal.returns
 returns c =
     let v = seen c.args.rows.now in
     let v' = seen c.hook.new.rows in
-    let s = c.free-slot-s.result in
+    let s = c.free_slot-s.result in
     let a = c.args in
     let r = c.requires in
-    let f = c.free-slot-s.ensures in
+    let f = c.free_slot-s.ensures in
     let e : v' ≡ hooked s a.strip a.k a.corner a.at v = c.hook.ensures.view ∙ ap (λ z. hooked s a.strip z a.corner a.at v) (to_z-of_z w16 a.k c.ranges.k) in
     record {
       brought = record {

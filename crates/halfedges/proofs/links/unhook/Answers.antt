@@ -8,8 +8,8 @@ use Rattle.halfedges.proofs.Views.{zero_row}
 use Rattle.halfedges.proofs.Meaning.{held_slot, led_indexed, after_held}
 use Rattle.halfedges.proofs.links.unhook.Goals as goal
 
-pub set-predecessor-requires : goal.set-predecessor-requires
-set-predecessor-requires c =
+pub set_predecessor-requires : goal.set_predecessor-requires
+set_predecessor-requires c =
     let rs = c.args.rows.now in
     let h = c.args.h in
     let v = seen rs in
@@ -19,9 +19,9 @@ set-predecessor-requires c =
     let q : SFits w16 r.predecessor = search rules in
     let af : to_z w16 (of_z w16 r.follower) ≡ (row_of v h).follower = to_z-of_z w16 _ f ∙ ap (λ x. x.follower) c.read-r.ensures ∙ ap (λ i. (v.row i).follower) s in
     let bf : to_z w16 (of_z w16 r.predecessor) ≡ (row_of v h).predecessor = to_z-of_z w16 _ q ∙ ap (λ x. x.predecessor) c.read-r.ensures ∙ ap (λ i. (v.row i).predecessor) s in
-    let first : seen c.set-follower.new.rows ≡ led (row_of v h).predecessor (row_of v h).follower v = c.set-follower.ensures.view ∙ ap₂ (λ x y. led x y v) bf af in
+    let first : seen c.set_follower.new.rows ≡ led (row_of v h).predecessor (row_of v h).follower v = c.set_follower.ensures.view ∙ ap₂ (λ x y. led x y v) bf af in
     record {
-      roomy = c.set-follower.ensures.roomy;
+      roomy = c.set_follower.ensures.roomy;
       indexed = subst (Indexed slots) (sym first) (led_indexed slots v c.requires.indexed (zero_row max_edge slots rs) max_edge c.requires.rotation h c.requires.here);
       here = ap (λ u. (turn_of u).held (to_z w16 (of_z w16 r.follower))) first ∙ ap (turn_of v).held af ∙ after_held slots v c.requires.indexed (zero_row max_edge slots rs) max_edge c.requires.rotation h c.requires.here;
     }
@@ -33,7 +33,7 @@ write-requires c =
     let s : c.slot-s.result ≡ v.entry h = c.slot-s.ensures ∙ ap v.entry (to_z-of_z w16 h c.ranges.h) in
     let l = held_slot v h c.requires.here in
     let u = leb-true (v.entry h) slots (c.requires.indexed.inside h) in
-    record { roomy = c.set-predecessor.ensures.roomy; low = omega arith; high = omega arith }
+    record { roomy = c.set_predecessor.ensures.roomy; low = omega arith; high = omega arith }
 
 pub note-requires : goal.note-requires
 note-requires c =

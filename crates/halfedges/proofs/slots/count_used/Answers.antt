@@ -23,8 +23,8 @@ counted v i count count' b e s r =
 pub loop-i-init : goal.loop-i-init
 loop-i-init c = (sym (used_start (seen c.args.rows.now)), omega arith)
 
-pub overflow-add-count : goal.overflow-add-count
-overflow-add-count c = omega (arith, c.loop-i.invariant.1)
+pub overflow_add-count : goal.overflow_add-count
+overflow_add-count c = omega (arith, c.loop-i.invariant.1)
 
 pub loop-i-preserved : goal.loop-i-preserved
 loop-i-preserved c =

@@ -9,9 +9,9 @@ pub returns : goal.returns
 returns g c =
     let m = c.args.marks.now in
     let l = c.args.line.now in
-    let e : enough max_edge m l ≡ true = enough_both max_edge m l c.if-marks-lt-MARK-BYTES.false c.if-line-lt-LINE-NAMES.false in
+    let e : enough max_edge m l ≡ true = enough_both max_edge m l c.if-marks-lt-MARK_BYTES.false c.if-line-lt-LINE_NAMES.false in
     record {
-      answer = ap Ok c.count-all.ensures.count ∙ sym (cond-true (enough max_edge m l) _ _ e);
-      zero = wiped_part (marks_for max_edge) 0 m c.count-all.new.marks c.if-marks-lt-MARK-BYTES.false c.count-all.ensures.zero ∙ sym (cond-true (enough max_edge m l) _ _ e);
-      empty = wiped_part (line_for max_edge) (pos 0) l c.count-all.new.line c.if-line-lt-LINE-NAMES.false c.count-all.ensures.empty ∙ sym (cond-true (enough max_edge m l) _ _ e);
+      answer = ap Ok c.count_all.ensures.count ∙ sym (cond-true (enough max_edge m l) _ _ e);
+      zero = wiped_part (marks_for max_edge) 0 m c.count_all.new.marks c.if-marks-lt-MARK_BYTES.false c.count_all.ensures.zero ∙ sym (cond-true (enough max_edge m l) _ _ e);
+      empty = wiped_part (line_for max_edge) (pos 0) l c.count_all.new.line c.if-line-lt-LINE_NAMES.false c.count_all.ensures.empty ∙ sym (cond-true (enough max_edge m l) _ _ e);
     }

@@ -9,6 +9,6 @@ use Rattle.questions.proofs.counting.rounds_turned_twice.Goals as goal
 pub returns : goal.returns
 returns g c = record {
   same = search rules;
-  answer = c.rounds-of-answer.ensures.answer ∙ ap (asked ((enough_marks max_edge c.args.marks.now, ShortBuffers) ∷ [])) (twice_rounds max_edge (g.T.Turning.turn c.args.t) (g.T.Turning.lawful c.args.t));
-  zero = c.rounds-of-answer.ensures.zero;
+  answer = c.rounds_of-answer.ensures.answer ∙ ap (asked ((enough_marks max_edge c.args.marks.now, ShortBuffers) ∷ [])) (twice_rounds max_edge (g.T.Turning.turn c.args.t) (g.T.Turning.lawful c.args.t));
+  zero = c.rounds_of-answer.ensures.zero;
 }

@@ -12,5 +12,5 @@ returns g c =
     let t = g.T.Turning.turn c.args.t.now in
     let bh = to_z-of_z w16 c.args.h c.ranges.h in
     let e : t.held c.args.h ≡ true = sym (simp bh at c.if-not-holds.ensures) in
-    let r : c.round-length-length.result ≡ round_length max_edge (side t) c.args.h = simp bh at c.round-length-length.ensures in
+    let r : c.round_length-length.result ≡ round_length max_edge (side t) c.args.h = simp bh at c.round_length-length.ensures in
     ap Ok (r ∙ side_length max_edge t (g.T.Turning.lawful c.args.t.now) c.args.h e) ∙ sym (cond-true (t.held c.args.h) _ _ e)

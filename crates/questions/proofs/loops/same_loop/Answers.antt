@@ -18,5 +18,5 @@ returns g c =
     let e : t.held c.args.h ≡ true = sym (simp bh at c.if-not-holds.ensures) in
     let k : t.held c.args.k ≡ true = sym (simp bk at c.if-not-holds-2.ensures) in
     let s : Steps (side t).follower c.args.h c.args.k c.steps-found.result = simp (bh, bk) at c.steps-found.ensures in
-    ap Ok (c.is-some.ensures ∙ steps_tell max_edge (side t) (side_lawful max_edge t law) c.args.h c.args.k e c.steps-found.result s ∙ side_test max_edge t law c.args.h c.args.k e)
+    ap Ok (c.is_some.ensures ∙ steps_tell max_edge (side t) (side_lawful max_edge t law) c.args.h c.args.k e c.steps-found.result s ∙ side_test max_edge t law c.args.h c.args.k e)
     ∙ sym (cond-true (t.held c.args.h) _ _ e ∙ cond-true (t.held c.args.k) _ _ k)

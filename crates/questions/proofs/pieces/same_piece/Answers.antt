@@ -12,9 +12,9 @@ returns g c =
     let l = c.args.line.now in
     let bh = to_z-of_z w16 c.args.h c.ranges.h in
     let bk = to_z-of_z w16 c.args.k c.ranges.k in
-    let e : enough max_edge m l ≡ true = enough_both max_edge m l c.if-marks-lt-MARK-BYTES.false c.if-line-lt-LINE-NAMES.false in
+    let e : enough max_edge m l ≡ true = enough_both max_edge m l c.if-marks-lt-MARK_BYTES.false c.if-line-lt-LINE_NAMES.false in
     record {
-      answer = (simp (bh, bk) at c.same-piece-within.ensures.answer) ∙ sym (cond-true (enough max_edge m l) _ _ e);
-      zero = wiped_part (marks_for max_edge) 0 m c.same-piece-within.new.marks c.if-marks-lt-MARK-BYTES.false c.same-piece-within.ensures.zero ∙ sym (cond-true (enough max_edge m l) _ _ e);
-      empty = wiped_part (line_for max_edge) (pos 0) l c.same-piece-within.new.line c.if-line-lt-LINE-NAMES.false c.same-piece-within.ensures.empty ∙ sym (cond-true (enough max_edge m l) _ _ e);
+      answer = (simp (bh, bk) at c.same_piece_within.ensures.answer) ∙ sym (cond-true (enough max_edge m l) _ _ e);
+      zero = wiped_part (marks_for max_edge) 0 m c.same_piece_within.new.marks c.if-marks-lt-MARK_BYTES.false c.same_piece_within.ensures.zero ∙ sym (cond-true (enough max_edge m l) _ _ e);
+      empty = wiped_part (line_for max_edge) (pos 0) l c.same_piece_within.new.line c.if-line-lt-LINE_NAMES.false c.same_piece_within.ensures.empty ∙ sym (cond-true (enough max_edge m l) _ _ e);
     }

@@ -8,3 +8,4 @@ pub mod Questions
 pub mod Lines
 pub mod Judged
 pub mod Verdict
+pub mod Specimens

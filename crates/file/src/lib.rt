@@ -6,5 +6,6 @@ pub mod fault;
 pub mod le;
 pub mod parts;
 pub mod reader;
+pub mod specimens;
 pub mod view;
 pub mod whole;

@@ -7,7 +7,7 @@ ghost use Rattle.halfedges.specs.View.{seen, Roomy};
 ghost use Rattle.halfedges.specs.Rows.{turn_of, strips_of, Packed, used, Unlinked, same_place, row_in, slot_count, externals, Planted, Core};
 
 use crate::halfedge::{FREE, Halfedge};
-use crate::slots::{free_slot, row_of, write};
+use crate::slots::{free_slot_past, row_of, write};
 use turning::limits::SLOTS;
 
 // A slot of the name k in the strip, where there is one.
@@ -26,8 +26,20 @@ fn find_slot(rows: &[Halfedge], strip: u16, k: i16) -> usize
     0
 }
 
+// Puts an external row of the name k into the strip, at any free slot.
+pub fn plant(rows: &mut [Halfedge], strip: u16, k: i16)
+    requires core { Core max_edge slots rows.old }
+    requires room { used slots (seen rows.old) < slots }
+    requires some { k ≢ pos 0 }
+    ensures core { Core max_edge slots rows.new }
+    ensures planted { Planted slots 1 (λ i h. indicator (same_place strip k i h)) (seen rows.old) (seen rows.new) }
+    ensures unlinked { Unlinked slots (seen rows.old) → Unlinked slots (seen rows.new) }
+{
+    plant_past(rows, strip, k, 0);
+}
+
 // Puts an external row of the name k into the strip, at the first free slot, and tells how many slots are known to be used then.
-pub fn plant(rows: &mut [Halfedge], strip: u16, k: i16, known: usize) -> usize
+pub fn plant_past(rows: &mut [Halfedge], strip: u16, k: i16, known: usize) -> usize
     requires core { Core max_edge slots rows.old }
     requires room { used slots (seen rows.old) < slots }
     requires some { k ≢ pos 0 }
@@ -37,7 +49,7 @@ pub fn plant(rows: &mut [Halfedge], strip: u16, k: i16, known: usize) -> usize
     ensures unlinked { Unlinked slots (seen rows.old) → Unlinked slots (seen rows.new) }
     ensures packed { Packed result (seen rows.new) }
 {
-    let s = free_slot(rows, known);
+    let s = free_slot_past(rows, known);
     write(
         rows,
         s,
@@ -65,8 +77,20 @@ pub fn uproot(rows: &mut [Halfedge], strip: u16, k: i16)
 }
 
 // Puts the external rows of a held edge into the strips between its two ends: -edge west of each border that it crosses, +edge east of it.
-// Slots that are known to be used are passed over, and it tells how many are known then: whoever plants many edges goes over the records once.
-pub fn plant_edge(rows: &mut [Halfedge], edge: u16, known: usize) -> usize
+pub fn plant_edge(rows: &mut [Halfedge], edge: u16)
+    requires core { Core max_edge slots rows.old }
+    requires here { (turn_of (seen rows.old)).held (pos edge) ≡ true }
+    requires eastward { strips_of (seen rows.old) (pos edge) ≤ strips_of (seen rows.old) (neg_ℤ (pos edge)) }
+    requires room { used slots (seen rows.old) + 2 * (strips_of (seen rows.old) (neg_ℤ (pos edge)) - strips_of (seen rows.old) (pos edge)) ≤ slots }
+    ensures core { Core max_edge slots rows.new }
+    ensures planted { Planted slots (2 * (strips_of (seen rows.old) (neg_ℤ (pos edge)) - strips_of (seen rows.old) (pos edge))) (externals edge (strips_of (seen rows.old) (pos edge)) (strips_of (seen rows.old) (neg_ℤ (pos edge)))) (seen rows.old) (seen rows.new) }
+    ensures unlinked { Unlinked slots (seen rows.old) → Unlinked slots (seen rows.new) }
+{
+    plant_edge_past(rows, edge, 0);
+}
+
+// The same, at the first free slots. Those that are known to be used are passed over, and it tells how many are known then: whoever plants many edges goes over the records once.
+pub fn plant_edge_past(rows: &mut [Halfedge], edge: u16, known: usize) -> usize
     requires core { Core max_edge slots rows.old }
     requires here { (turn_of (seen rows.old)).held (pos edge) ≡ true }
     requires eastward { strips_of (seen rows.old) (pos edge) ≤ strips_of (seen rows.old) (neg_ℤ (pos edge)) }
@@ -83,8 +107,8 @@ pub fn plant_edge(rows: &mut [Halfedge], edge: u16, known: usize) -> usize
     let east = row_of(rows, back).strip;
     let mut known = known;
     for i in west..east {
-        known = plant(rows, i, back, known);
-        known = plant(rows, i + 1, e, known);
+        known = plant_past(rows, i, back, known);
+        known = plant_past(rows, i + 1, e, known);
     }
     known
 }

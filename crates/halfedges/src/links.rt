@@ -117,6 +117,6 @@ pub fn bring(rows: &mut [Halfedge], strip: u16, k: i16, corner: Option<i16>, at:
     ensures brought { Brought slots strip k corner at (seen rows.old) (seen rows.new) }
     ensures roomy { Roomy max_edge slots rows.new }
 {
-    let s = free_slot(rows, 0);
+    let s = free_slot(rows);
     hook(rows, s, strip, k, corner, at);
 }

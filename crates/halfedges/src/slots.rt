@@ -76,8 +76,19 @@ pub fn note(rows: &mut [Halfedge], h: i16, s: u16)
     rows[k / 3].index[k % 3] = s;
 }
 
+// A slot whose row has no name.
+pub fn free_slot(rows: &[Halfedge]) -> usize
+    requires roomy { Roomy max_edge slots rows.now }
+    requires room { used slots (seen rows.now) < slots }
+    ensures low { 1 ≤ result }
+    ensures high { result ≤ slots }
+    ensures free { ((seen rows.now).row result).name ≡ pos 0 }
+{
+    free_slot_past(rows, 0)
+}
+
 // The first slot whose row has no name, after those that are known to be used.
-pub fn free_slot(rows: &[Halfedge], known: usize) -> usize
+pub fn free_slot_past(rows: &[Halfedge], known: usize) -> usize
     requires roomy { Roomy max_edge slots rows.now }
     requires room { used slots (seen rows.now) < slots }
     requires packed { Packed known (seen rows.now) }

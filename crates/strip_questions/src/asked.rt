@@ -9,8 +9,7 @@ ghost use Rattle.file.specs.Views.{told, Whole};
 use crate::followed::slots_followed;
 use crate::names::names_good;
 use crate::paired::names_paired;
-use crate::plain::{followers_good, points_good};
-use crate::points::points_new;
+use crate::plain::{followers_good, points_good, points_new};
 use crate::walks::rounds_right;
 use file::fault::StripFault;
 use file::parts::{eastern_border, lend_strip, western_border};
@@ -24,7 +23,7 @@ pub fn ask_strip(
     east: Option<i32>,
     marks: &mut [u8],
 ) -> Result<(), StripFault>
-    requires { (Whole s) × ((s.slots ≤ max_slots) × ((s.vertices ≤ s.slots) × (length marks.old ≡ marks_for max_edge))) }
+    requires { (Whole s) × ((s.slots ≤ max_slots) × (length marks.old ≡ marks_for max_edge)) }
     ensures { result ≡ answered (strip_verdict west east (told s.entry) number) tt }
 {
     names_good(s, number)?;

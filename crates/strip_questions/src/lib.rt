@@ -7,5 +7,4 @@ pub mod names;
 mod paired;
 pub mod place;
 mod plain;
-mod points;
 mod walks;

@@ -1,8 +1,8 @@
-// Questions 8 and 11: followers are slots or none; points are in range and in the strip.
+// Questions 8, 11 and 12: followers are slots or none; points are in range, in the strip, and differ.
 ghost use Rattle.std.specs.Prelude.{◌≡◌, ◌<◌};
 ghost use Rattle.file.specs.Places.{answered};
-ghost use Rattle.file.specs.Questions.{follower_good, not_west_of, west_of, lies_in};
-ghost use Rattle.file.specs.Verdict.{q8, q11};
+ghost use Rattle.file.specs.Questions.{follower_good, not_west_of, west_of, lies_in, point_new};
+ghost use Rattle.file.specs.Verdict.{q8, q11, q12};
 ghost use Rattle.file.specs.Views.{told, Whole};
 
 use chart::point::Point;
@@ -72,6 +72,36 @@ pub fn points_good(
         if !point_good(west, east, s.point(k)) {
             return Err(StripFault {
                 number: 11,
+                strip: number,
+                place: k,
+            });
+        }
+    }
+    Ok(())
+}
+
+fn point_new(s: Strip<'_>, k: u16) -> bool
+    requires { (Whole s) × (k < s.vertices) }
+    ensures { result ≡ point_new (told s.entry) k }
+{
+    let here = s.point(k);
+    for m in 0..k {
+        if s.point(m).is_same(here) {
+            return false;
+        }
+    }
+    true
+}
+
+// Question 12, of one strip.
+pub fn points_new(s: Strip<'_>, number: u16) -> Result<(), StripFault>
+    requires { Whole s }
+    ensures { result ≡ answered (q12 (told s.entry) number) tt }
+{
+    for k in 0..s.vertices {
+        if !point_new(s, k) {
+            return Err(StripFault {
+                number: 12,
                 strip: number,
                 place: k,
             });

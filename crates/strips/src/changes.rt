@@ -26,7 +26,7 @@ pub(crate) fn hang_through(rows: &mut Rows, borders: Borders, edge: u16, start: 
     let west = strip_of(&borders, start.point.x);
     let east = strip_of(&borders, end.point.x);
     hang_edge(rows, edge, start, end, Span { west, east });
-    plant_edge(rows.at, edge, 0);
+    plant_edge(rows.at, edge);
 }
 
 // Takes an edge out. The borders are there for the contract alone.
@@ -69,6 +69,6 @@ pub(crate) fn cleave_through(
             east: last,
         },
     );
-    plant_edge(rows.at, edge, 0);
-    plant_edge(rows.at, east, 0);
+    plant_edge(rows.at, edge);
+    plant_edge(rows.at, east);
 }

@@ -13,7 +13,7 @@ ghost use Rattle.strips.specs.Sheets.{Stripped};
 use crate::borders::{Borders, strip_of};
 use chart::Chart;
 use halfedges::copy::copy_chart;
-use halfedges::external::plant_edge;
+use halfedges::external::plant_edge_past;
 use halfedges::halfedge::{Halfedge, Rows};
 use halfedges::slots::slot;
 use halfedges::strips::{drop_external, set_strip};
@@ -48,7 +48,7 @@ fn plant_all(rows: &mut [Halfedge], _borders: &Borders)
     let mut known = 0;
     for e in 1..=MAX_EDGE {
         if slot(rows, e as i16) != 0 {
-            known = plant_edge(rows, e, known);
+            known = plant_edge_past(rows, e, known);
         }
     }
 }

@@ -5,12 +5,12 @@ use Rattle.file.specs.Verdict.{seam_fault}
 use Rattle.file.proofs.Places.{first_bad_is, first_bad_none, fault_some, fault_none}
 use Rattle.seam_questions.proofs.beyond.all_runs_on.Goals as goal
 
-pub returns-then-not-runs-on : goal.returns-then-not-runs-on
-returns-then-not-runs-on c =
-    fault_some (seam_fault 13 (c.args.j + 1)) _ _ _ (first_bad_is (runs_on (strips c.args.bytes.now) (strip c.args.bytes.now) c.args.j) _ _ c.loop-i-test.true c.loop-i.invariant (sym c.runs-on.ensures ∙ c.if-not-runs-on.true))
+pub returns-then-not-runs_on : goal.returns-then-not-runs_on
+returns-then-not-runs_on c =
+    fault_some (seam_fault 13 (c.args.j + 1)) _ _ _ (first_bad_is (runs_on (strips c.args.bytes.now) (strip c.args.bytes.now) c.args.j) _ _ c.loop-i-test.true c.loop-i.invariant (sym c.runs_on.ensures ∙ c.if-not-runs_on.true))
 
 pub loop-i-preserved : goal.loop-i-preserved
-loop-i-preserved c = below_more _ _ c.loop-i.invariant (sym c.runs-on.ensures ∙ c.if-not-runs-on.false)
+loop-i-preserved c = below_more _ _ c.loop-i.invariant (sym c.runs_on.ensures ∙ c.if-not-runs_on.false)
 
 pub returns : goal.returns
 returns c = fault_none (seam_fault 13 (c.args.j + 1)) _ _ (first_bad_none (runs_on (strips c.args.bytes.now) (strip c.args.bytes.now) c.args.j) c.args.s.slots (λ i h. c.loop-i.invariant i (search rules)))

@@ -4,10 +4,10 @@ use Rattle.file.specs.Views.{told}
 use Rattle.seam_questions.proofs.SideMarks.{west_some, lent_good}
 use Rattle.seam_questions.proofs.beyond.mark_west.Goals as goal
 
-pub mark-side-requires : goal.mark-side-requires
-mark-side-requires c =
+pub mark_side-requires : goal.mark_side-requires
+mark_side-requires c =
     let l : (c.args.j - 1) < c.args.count = search rules in
-    ((c.lend-strip.ensures.whole, lent_good c.args.bytes.now c.args.count (c.args.j - 1) (told c.lend-strip.result) c.requires.1.0 l c.lend-strip.ensures.told), search rules)
+    record { whole = (c.lend_strip.ensures.whole, lent_good c.args.bytes.now c.args.count (c.args.j - 1) (told c.lend_strip.result) c.requires.1.0 l c.lend_strip.ensures.told); marks_len = search rules }
 
 pub returns : goal.returns
-returns c = λ z h. c.mark-side.ensures z h ∙ west_some (strip c.args.bytes.now) c.args.j (told c.lend-strip.result) z _ (search rules) c.lend-strip.ensures.told
+returns c = λ z h. c.mark_side.ensures z h ∙ west_some (strip c.args.bytes.now) c.args.j (told c.lend_strip.result) z _ (search rules) c.lend_strip.ensures.told

@@ -7,48 +7,48 @@ use Rattle.file.proofs.Places.{count_more}
 use Rattle.seam_questions.specs.Vertices.{slot_at, vertex_at}
 use Rattle.seam_questions.proofs.Numbering.{none_numbered, all_numbered, round_numbered, round_passed}
 use Rattle.seam_questions.proofs.vertices.number_rounds.Goals as goal
-use Rattle.seam_questions.proofs.vertices.number_rounds.Goals.{then-opens-round, else-opens-round}
+use Rattle.seam_questions.proofs.vertices.number_rounds.Goals.{then-opens_round, else-opens_round}
 
 opens_is_home : (a b : Bool) → (a && b) ≡ true → a ≡ true
 opens_is_home a b e = grind arith
 
 pub loop-i-init : goal.loop-i-init
-loop-i-init c = (refl, omega arith, none_numbered (told c.args.s) c.requires.0.1.0 c.args.line.now c.requires.1.0 c.requires.1.1)
+loop-i-init c = (refl, omega arith, none_numbered (told c.args.s) c.requires.whole.1.0 c.args.line.now c.requires.line_len.0 c.requires.line_len.1)
 
-pub opens-round-requires : goal.opens-round-requires
-opens-round-requires c = (c.requires.0.0, (c.requires.0.1.0, (c.loop-i-test.true, (c.loop-i.auto.line ∙ c.requires.1.0, c.loop-i.invariant.2))))
+pub opens_round-requires : goal.opens_round-requires
+opens_round-requires c = (c.requires.whole.0, (c.requires.whole.1.0, (c.loop-i-test.true, (c.loop-i.auto.line ∙ c.requires.line_len.0, c.loop-i.invariant.2))))
 
-pub number-round-requires : goal.number-round-requires
-number-round-requires c =
-    let o : opens (told c.args.s) c.loop-i.i ≡ true = sym c.opens-round.ensures ∙ c.if-opens-round.true in
+pub number_round-requires : goal.number_round-requires
+number_round-requires c =
+    let o : opens (told c.args.s) c.loop-i.i ≡ true = sym c.opens_round.ensures ∙ c.if-opens_round.true in
     let h : home (told c.args.s) c.loop-i.i ≡ true = opens_is_home (home (told c.args.s) c.loop-i.i) (eqb (low (told c.args.s) c.loop-i.i) c.loop-i.i) o in
-    ((c.requires.0.0, (c.requires.0.1.0, (c.loop-i-test.true, h))), (omega (arith, c.loop-i.invariant.1, c.requires.0.1.1, c.loop-i-test.true), c.loop-i.auto.line ∙ c.requires.1.0))
+    record { whole = (c.requires.whole.0, (c.requires.whole.1.0, (c.loop-i-test.true, h))); v_lt_max_slots = (omega (arith, c.loop-i.invariant.1, c.requires.whole.1.1, c.loop-i-test.true), c.loop-i.auto.line ∙ c.requires.line_len.0) }
 
 pub loop-i-preserved : goal.loop-i-preserved
-loop-i-preserved c = elim c.if-opens-round.branch [
-  | then-opens-round w ↦
+loop-i-preserved c = elim c.if-opens_round.branch [
+  | then-opens_round w ↦
       let s = told c.args.s in
-      let o : opens s c.loop-i.i ≡ true = sym c.opens-round.ensures ∙ w.if-opens-round.true in
+      let o : opens s c.loop-i.i ≡ true = sym c.opens_round.ensures ∙ w.if-opens_round.true in
       let n : count_below (opens s) (c.loop-i.i + 1) ≡ 1 + count_below (opens s) c.loop-i.i =
       count_more (opens s) c.loop-i.i ∙ ap (λ b. indicator b + count_below (opens s) c.loop-i.i) o in (
         omega (arith, w.count-is, c.loop-i.invariant.0),
         omega (arith, w.count-is, c.loop-i.invariant.1),
         (λ k h. ap (λ m. vertex_at m (slot_at s k)) w.line-is
-            ∙ round_numbered s c.requires.0.1.0.turned c.loop-i.i c.loop-i-test.true o c.loop-i.count c.loop-i.invariant.0 k _ _ h (c.loop-i.invariant.2 k h) (w.number-round.ensures k h)),
+            ∙ round_numbered s c.requires.whole.1.0.turned c.loop-i.i c.loop-i-test.true o c.loop-i.count c.loop-i.invariant.0 k _ _ h (c.loop-i.invariant.2 k h) (w.number_round.ensures k h)),
       )
-  | else-opens-round w ↦
+  | else-opens_round w ↦
       let s = told c.args.s in
-      let o : opens s c.loop-i.i ≡ false = sym c.opens-round.ensures ∙ w.if-opens-round.false in
+      let o : opens s c.loop-i.i ≡ false = sym c.opens_round.ensures ∙ w.if-opens_round.false in
       let n : count_below (opens s) (c.loop-i.i + 1) ≡ 0 + count_below (opens s) c.loop-i.i =
       count_more (opens s) c.loop-i.i ∙ ap (λ b. indicator b + count_below (opens s) c.loop-i.i) o in (
         omega (arith, w.count-is, c.loop-i.invariant.0),
         omega (arith, w.count-is, c.loop-i.invariant.1),
         (λ k h. ap (λ m. vertex_at m (slot_at s k)) w.line-is ∙ c.loop-i.invariant.2 k h
-            ∙ round_passed s c.requires.0.1.0.turned c.loop-i.i c.loop-i-test.true o k h),
+            ∙ round_passed s c.requires.whole.1.0.turned c.loop-i.i c.loop-i-test.true o k h),
       )
 ]
 
 pub returns : goal.returns
 returns c =
     let e : c.loop-i.i ≡ c.args.s.slots = search rules in
-    all_numbered (told c.args.s) c.requires.0.1.0 c.loop-i.line c.loop-i.i e c.loop-i.invariant.2
+    all_numbered (told c.args.s) c.requires.whole.1.0 c.loop-i.line c.loop-i.i e c.loop-i.invariant.2

@@ -11,12 +11,12 @@ returns-then-name-lt1 c =
     let f : SFits w16 c.name.result = search rules in
     west_else (told c.args.s) c.requires.1.0 c.args.i c.requires.1.1.0 (below_one _ _ (to_z-of_z w16 c.name.result f ∙ c.name.ensures) c.if-name-lt1.true)
 
-pub is-west-requires : goal.is-west-requires
-is-west-requires c =
+pub is_west-requires : goal.is_west-requires
+is_west-requires c =
     let s = told c.args.s in
-    let first : c.vertex-at-p.result ≡ _ = c.vertex-at-p.ensures ∙ ap (vertex_at c.args.line.now) c.line-in.ensures.value in
-    let second : c.vertex-at-q.result ≡ _ = c.vertex-at-q.ensures ∙ ap (vertex_at c.args.line.now) c.line-against.ensures.value in
-    let far : (v : ℕ) → c.vertex-at-q.result ≡ Some v → v < c.args.s.vertices = λ v e.
+    let first : c.vertex_at-p.result ≡ _ = c.vertex_at-p.ensures ∙ ap (vertex_at c.args.line.now) c.line_in.ensures.value in
+    let second : c.vertex_at-q.result ≡ _ = c.vertex_at-q.ensures ∙ ap (vertex_at c.args.line.now) c.line_against.ensures.value in
+    let far : (v : ℕ) → c.vertex_at-q.result ≡ Some v → v < c.args.s.vertices = λ v e.
     let r = against_told s c.requires.1.0 c.args.i c.requires.1.1.0 c.args.line.now c.requires.1.1.1.1 v (sym e ∙ second) in
     vertex_told s c.requires.1.0 r.0 r.1 c.args.line.now c.requires.1.1.1.1 v r.2 in
     (c.requires.0, ((λ v e. vertex_told s c.requires.1.0 c.args.i c.requires.1.1.0 c.args.line.now c.requires.1.1.1.1 v (sym e ∙ first)), far))
@@ -24,8 +24,8 @@ is-west-requires c =
 pub returns : goal.returns
 returns c =
     let s = told c.args.s in
-    let first : c.vertex-at-p.result ≡ _ = c.vertex-at-p.ensures ∙ ap (vertex_at c.args.line.now) c.line-in.ensures.value in
-    let second : c.vertex-at-q.result ≡ _ = c.vertex-at-q.ensures ∙ ap (vertex_at c.args.line.now) c.line-against.ensures.value in
+    let first : c.vertex_at-p.result ≡ _ = c.vertex_at-p.ensures ∙ ap (vertex_at c.args.line.now) c.line_in.ensures.value in
+    let second : c.vertex_at-q.result ≡ _ = c.vertex_at-q.ensures ∙ ap (vertex_at c.args.line.now) c.line_against.ensures.value in
     let f : SFits w16 c.name.result = search rules in
     let up : positive (s.name c.args.i) ≡ true = from_one _ _ (to_z-of_z w16 c.name.result f ∙ c.name.ensures) c.if-name-lt1.false in
-    c.is-west.ensures ∙ west_by_line s c.requires.1.0 c.args.i c.requires.1.1.0 c.args.line.now c.requires.1.1.1.1 up _ _ first second
+    c.is_west.ensures ∙ west_by_line s c.requires.1.0 c.args.i c.requires.1.1.0 c.args.line.now c.requires.1.1.1.1 up _ _ first second

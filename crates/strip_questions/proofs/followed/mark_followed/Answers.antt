@@ -8,18 +8,18 @@ use Rattle.strip_questions.proofs.followed.mark_followed.Goals as goal
 use Rattle.strip_questions.proofs.followed.mark_followed.Goals.{then-follower, else-follower}
 
 pub loop-k-init : goal.loop-k-init
-loop-k-init c = λ i h. ap (λ m. get_or m i 0) c.requires.1.1 ∙ get_or-replicate (length c.args.marks.now) i 0 0 (omega arith)
+loop-k-init c = λ i h. ap (λ m. get_or m i 0) c.requires.marks_len.1 ∙ get_or-replicate (length c.args.marks.now) i 0 0 (omega arith)
 
 pub loop-k-preserved : goal.loop-k-preserved
 loop-k-preserved c =
-    let long : length c.loop-k.marks ≡ marks_for max_edge = c.loop-k.auto.marks ∙ c.requires.1.0 in
+    let long : length c.loop-k.marks ≡ marks_for max_edge = c.loop-k.auto.marks ∙ c.requires.marks_len.0 in
     elim c.if-follower.branch [
       | then-follower w ↦
-          let g = c.requires.0.1.1 c.loop-k.k c.loop-k-test.true in
+          let g = c.requires.whole.1.1 c.loop-k.k c.loop-k-test.true in
           let slot : (told c.args.s).follower c.loop-k.k < c.args.s.slots =
           is_slot (told c.args.s) c.loop-k.k g (λ e. w.if-follower.true (c.follower-follower.ensures ∙ e)) in
           let e : c.if-follower.marks ≡ set c.loop-k.marks ((told c.args.s).follower c.loop-k.k) (one_more (get_or c.loop-k.marks ((told c.args.s).follower c.loop-k.k) 0)) =
-          w.marks-is ∙ w.add-mark.ensures
+          w.marks-is ∙ w.add_mark.ensures
           ∙ ap (λ k. set c.loop-k.marks k (one_more (get_or c.loop-k.marks k 0))) c.follower-follower.ensures in
           λ i h. ap (λ m. get_or m i 0) e ∙ count_set c.loop-k.marks (told c.args.s) c.loop-k.k (omega arith) c.loop-k.invariant i h
       | else-follower w ↦

@@ -8,32 +8,32 @@ use Rattle.file.specs.Verdict.{strip_fault}
 use Rattle.file.proofs.Places.{first_bad_is, first_bad_none, fault_some, fault_none}
 use Rattle.strip_questions.proofs.Marks.{mark_more, named_neg, pair_seen, pair_lone, pair_good}
 use Rattle.strip_questions.proofs.paired.find_unpaired.Goals as goal
-use Rattle.strip_questions.proofs.paired.find_unpaired.Goals.{then-marks-here-eq2-via-then-marks-here-eq2, then-marks-here-eq2-via-else-marks-here-eq2+then-marks-place-against-eq0}
+use Rattle.strip_questions.proofs.paired.find_unpaired.Goals.{then-marks-here-eq2-via-then-marks-here-eq2, then-marks-here-eq2-via-else-marks-here-eq2+then-marks-place_against-eq0}
 
 pub returns-then-marks-here-eq2 : goal.returns-then-marks-here-eq2
 returns-then-marks-here-eq2 c =
-    let g = c.requires.0.1 c.loop-i.i c.loop-i-test.true in
+    let g = c.requires.whole.1 c.loop-i.i c.loop-i-test.true in
     let bad : paired (told c.args.s) c.loop-i.i ≡ false =
     elim c.then-marks-here-eq2.branch [
       | then-marks-here-eq2-via-then-marks-here-eq2 w ↦
           pair_seen (told c.args.s) c.loop-i.i _
-          (ap (λ k. get_or c.loop-i.marks k 0) c.place-in-here.ensures.value ∙ c.loop-i.invariant.0 ((told c.args.s).name c.loop-i.i) g) w.if-marks-here-eq2.true
-      | then-marks-here-eq2-via-else-marks-here-eq2+then-marks-place-against-eq0 w ↦
+          (ap (λ k. get_or c.loop-i.marks k 0) c.place_in-here.ensures.value ∙ c.loop-i.invariant.0 ((told c.args.s).name c.loop-i.i) g) w.if-marks-here-eq2.true
+      | then-marks-here-eq2-via-else-marks-here-eq2+then-marks-place_against-eq0 w ↦
           pair_lone (told c.args.s) c.loop-i.i _
-          (ap (λ k. get_or c.loop-i.marks k 0) w.place-against.ensures.value ∙ c.loop-i.invariant.0 (neg_ℤ ((told c.args.s).name c.loop-i.i)) (named_neg ((told c.args.s).name c.loop-i.i) g)) w.if-marks-place-against-eq0.true
+          (ap (λ k. get_or c.loop-i.marks k 0) w.place_against.ensures.value ∙ c.loop-i.invariant.0 (neg_ℤ ((told c.args.s).name c.loop-i.i)) (named_neg ((told c.args.s).name c.loop-i.i) g)) w.if-marks-place_against-eq0.true
     ] in
     fault_some (strip_fault 7 c.args.number) _ _ _ (first_bad_is (paired (told c.args.s)) _ _ c.loop-i-test.true c.loop-i.invariant.1 bad)
 
 pub loop-i-preserved : goal.loop-i-preserved
 loop-i-preserved c =
-    let g = c.requires.0.1 c.loop-i.i c.loop-i-test.true in
-    let long : length c.loop-i.marks ≡ marks_for max_edge = c.loop-i.auto.marks ∙ c.requires.1 in
+    let g = c.requires.whole.1 c.loop-i.i c.loop-i-test.true in
+    let long : length c.loop-i.marks ≡ marks_for max_edge = c.loop-i.auto.marks ∙ c.requires.marks_len in
     let good : paired (told c.args.s) c.loop-i.i ≡ true =
     pair_good (told c.args.s) c.loop-i.i _ _ (search rules)
-    (ap (λ k. get_or c.loop-i.marks k 0) c.place-in-here.ensures.value ∙ c.loop-i.invariant.0 ((told c.args.s).name c.loop-i.i) g)
-    (ap (λ k. get_or c.loop-i.marks k 0) c.place-against.ensures.value ∙ c.loop-i.invariant.0 (neg_ℤ ((told c.args.s).name c.loop-i.i)) (named_neg ((told c.args.s).name c.loop-i.i) g))
-    c.if-marks-here-eq2.false c.if-marks-place-against-eq0.false in (
-      (λ z h. ap (λ k. get_or (set c.loop-i.marks k 2) (mark_at max_edge z) 0) c.place-in-here.ensures.value
+    (ap (λ k. get_or c.loop-i.marks k 0) c.place_in-here.ensures.value ∙ c.loop-i.invariant.0 ((told c.args.s).name c.loop-i.i) g)
+    (ap (λ k. get_or c.loop-i.marks k 0) c.place_against.ensures.value ∙ c.loop-i.invariant.0 (neg_ℤ ((told c.args.s).name c.loop-i.i)) (named_neg ((told c.args.s).name c.loop-i.i) g))
+    c.if-marks-here-eq2.false c.if-marks-place_against-eq0.false in (
+      (λ z h. ap (λ k. get_or (set c.loop-i.marks k 2) (mark_at max_edge z) 0) c.place_in-here.ensures.value
           ∙ mark_more c.loop-i.marks (told c.args.s) c.loop-i.i 2
           (λ y. cond (names (told c.args.s) c.args.s.slots y) 1 0) long g c.loop-i.invariant.0 z h),
       below_more _ _ c.loop-i.invariant.1 good,

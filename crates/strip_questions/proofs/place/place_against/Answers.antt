@@ -5,8 +5,8 @@ use Rattle.search.specs.Marks.{place as mark_at}
 use Rattle.strip_questions.proofs.Marks.{neg_is, named_neg}
 use Rattle.strip_questions.proofs.place.place_against.Goals as goal
 
-pub place-of-requires : goal.place-of-requires
-place-of-requires c =
+pub place_of-requires : goal.place_of-requires
+place_of-requires c =
     let f : SFits w16 c.name.result = search rules in
     let g : named max_edge c.name.result ≡ true = subst (λ z. named max_edge z ≡ true) (sym c.name.ensures) c.requires.1.1 in
     subst (λ z. named max_edge z ≡ true) (sym (neg_is c.name.result f g)) (named_neg c.name.result g)
@@ -15,4 +15,4 @@ pub returns : goal.returns
 returns c =
     let f : SFits w16 c.name.result = search rules in
     let g : named max_edge c.name.result ≡ true = subst (λ z. named max_edge z ≡ true) (sym c.name.ensures) c.requires.1.1 in
-    record { value = c.place-of.ensures.value ∙ ap (mark_at max_edge) (neg_is c.name.result f g ∙ ap neg_ℤ c.name.ensures); within = c.place-of.ensures.within }
+    record { value = c.place_of.ensures.value ∙ ap (mark_at max_edge) (neg_is c.name.result f g ∙ ap neg_ℤ c.name.ensures); within = c.place_of.ensures.within }

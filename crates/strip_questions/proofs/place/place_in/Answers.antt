@@ -5,12 +5,12 @@ use Rattle.file.specs.Questions.{named}
 use Rattle.search.specs.Marks.{place as mark_at}
 use Rattle.strip_questions.proofs.place.place_in.Goals as goal
 
-pub place-of-requires : goal.place-of-requires
-place-of-requires c =
+pub place_of-requires : goal.place_of-requires
+place_of-requires c =
     let f : SFits w16 c.name.result = search rules in
     subst (λ z. named max_edge z ≡ true) (sym (to_z-of_z w16 c.name.result f ∙ c.name.ensures)) c.requires.1.1
 
 pub returns : goal.returns
 returns c =
     let f : SFits w16 c.name.result = search rules in
-    record { value = c.place-of.ensures.value ∙ ap (mark_at max_edge) (to_z-of_z w16 c.name.result f ∙ c.name.ensures); within = c.place-of.ensures.within }
+    record { value = c.place_of.ensures.value ∙ ap (mark_at max_edge) (to_z-of_z w16 c.name.result f ∙ c.name.ensures); within = c.place_of.ensures.within }

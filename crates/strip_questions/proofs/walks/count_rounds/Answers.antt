@@ -7,34 +7,34 @@ use Rattle.file.specs.Views.{told}
 use Rattle.file.proofs.Places.{count_more}
 use Rattle.strip_questions.proofs.Rounding.{round_marked, round_skipped, nothing_below}
 use Rattle.strip_questions.proofs.walks.count_rounds.Goals as goal
-use Rattle.strip_questions.proofs.walks.count_rounds.Goals.{then-opens-round, else-opens-round}
+use Rattle.strip_questions.proofs.walks.count_rounds.Goals.{then-opens_round, else-opens_round}
 
 pub loop-i-init : goal.loop-i-init
 loop-i-init c = (
   refl,
   omega arith,
-  (λ k h. ap (λ m. get_or m k 0) c.requires.1.1 ∙ get_or-replicate (length c.args.marks.now) k 0 0 (omega arith) ∙ nothing_below (home (told c.args.s) k) (low (told c.args.s) k)),
+  (λ k h. ap (λ m. get_or m k 0) c.requires.marks_len.1 ∙ get_or-replicate (length c.args.marks.now) k 0 0 (omega arith) ∙ nothing_below (home (told c.args.s) k) (low (told c.args.s) k)),
 )
 
 pub loop-i-preserved : goal.loop-i-preserved
-loop-i-preserved c = elim c.if-opens-round.branch [
-  | then-opens-round w ↦
-      let o : opens (told c.args.s) c.loop-i.i ≡ true = sym c.opens-round.ensures ∙ w.if-opens-round.true in
+loop-i-preserved c = elim c.if-opens_round.branch [
+  | then-opens_round w ↦
+      let o : opens (told c.args.s) c.loop-i.i ≡ true = sym c.opens_round.ensures ∙ w.if-opens_round.true in
       let n : count_below (opens (told c.args.s)) (c.loop-i.i + 1) ≡ 1 + count_below (opens (told c.args.s)) c.loop-i.i =
       count_more (opens (told c.args.s)) c.loop-i.i ∙ ap (λ b. indicator b + count_below (opens (told c.args.s)) c.loop-i.i) o in (
         omega (arith, w.count-is, c.loop-i.invariant.0),
         omega (arith, w.count-is, c.loop-i.invariant.1),
         (λ k h. ap (λ m. get_or m k 0) w.marks-is
-            ∙ round_marked (told c.args.s) c.requires.0.1.1 c.loop-i.i c.loop-i-test.true o k _ _ h (c.loop-i.invariant.2 k h) (w.mark-round.ensures k h)),
+            ∙ round_marked (told c.args.s) c.requires.whole.1.1 c.loop-i.i c.loop-i-test.true o k _ _ h (c.loop-i.invariant.2 k h) (w.mark_round.ensures k h)),
       )
-  | else-opens-round w ↦
-      let o : opens (told c.args.s) c.loop-i.i ≡ false = sym c.opens-round.ensures ∙ w.if-opens-round.false in
+  | else-opens_round w ↦
+      let o : opens (told c.args.s) c.loop-i.i ≡ false = sym c.opens_round.ensures ∙ w.if-opens_round.false in
       let n : count_below (opens (told c.args.s)) (c.loop-i.i + 1) ≡ 0 + count_below (opens (told c.args.s)) c.loop-i.i =
       count_more (opens (told c.args.s)) c.loop-i.i ∙ ap (λ b. indicator b + count_below (opens (told c.args.s)) c.loop-i.i) o in (
         omega (arith, w.count-is, c.loop-i.invariant.0),
         omega (arith, w.count-is, c.loop-i.invariant.1),
         (λ k h. ap (λ m. get_or m k 0) w.marks-is
-            ∙ round_skipped (told c.args.s) c.requires.0.1.1 c.loop-i.i c.loop-i-test.true o k _ h (c.loop-i.invariant.2 k h)),
+            ∙ round_skipped (told c.args.s) c.requires.whole.1.1 c.loop-i.i c.loop-i-test.true o k _ h (c.loop-i.invariant.2 k h)),
       )
 ]
 

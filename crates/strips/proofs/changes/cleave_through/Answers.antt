@@ -5,7 +5,6 @@ use Rattle.turning.specs.Limits.{slots}
 use Rattle.chart.specs.Changes.{at}
 use Rattle.halfedges.specs.View.{seen}
 use Rattle.halfedges.specs.Rows.{strips_of, Unlinked, same_place, slot_count}
-use Rattle.halfedges.proofs.Counted.{packed_none}
 use Rattle.strips.specs.Borders.{strip_of}
 use Rattle.strips.specs.Cuts.{list_of}
 use Rattle.strips.proofs.Lifting.{held_eastward, held_there}
@@ -59,7 +58,6 @@ plant-edge-requires c =
       here = cleave_here₂ bs rs p.stripped a.edge a.east a.at a.to p.cuts p.room rs₁ u.planted rs₂ f.lines f.used strips₂;
       eastward = cleave_eastward₂ bs rs p.stripped a.edge a.east a.at a.to p.cuts p.room rs₁ u.planted rs₂ f.lines f.used strips₂;
       room = cleave_room₂ bs rs p.stripped a.edge a.east a.at a.to p.cuts p.room rs₁ u.planted rs₂ f.lines f.used strips₂;
-      packed = packed_none (seen rs₂);
     }
 
 pub plant-edge-requires-2 : goal.plant-edge-requires-2
@@ -85,7 +83,6 @@ plant-edge-requires-2 c =
       here = cleave_here₃ bs rs p.stripped a.edge a.east a.at a.to p.cuts p.room rs₁ u.planted rs₂ f.lines f.used strips₂ rs₃ g.planted;
       eastward = cleave_eastward₃ bs rs p.stripped a.edge a.east a.at a.to p.cuts p.room rs₁ u.planted rs₂ f.lines f.used strips₂ rs₃ g.planted;
       room = cleave_room₃ bs rs p.stripped a.edge a.east a.at a.to p.cuts p.room rs₁ u.planted rs₂ f.lines f.used strips₂ rs₃ g.planted;
-      packed = packed_none (seen rs₃);
     }
 
 pub returns : goal.returns

@@ -5,7 +5,6 @@ use Rattle.turning.specs.Limits.{slots}
 use Rattle.chart.specs.Changes.{at}
 use Rattle.halfedges.specs.View.{seen}
 use Rattle.halfedges.specs.Rows.{strips_of, same_place, slot_count}
-use Rattle.halfedges.proofs.Counted.{packed_none}
 use Rattle.strips.specs.Borders.{strip_of}
 use Rattle.strips.specs.Cuts.{list_of}
 use Rattle.strips.proofs.Keeping.{hang_room₀, hang_here₁, hang_eastward₁, hang_room₁, hang_lines, hang_stripped}
@@ -36,7 +35,6 @@ plant-edge-requires c =
       here = hang_here₁ bs rs p.stripped a.edge a.start a.end p.ends p.room rs₁ h.lines strips₁ h.used;
       eastward = hang_eastward₁ bs rs p.stripped a.edge a.start a.end p.ends p.room rs₁ h.lines strips₁ h.used;
       room = hang_room₁ bs rs p.stripped a.edge a.start a.end p.ends p.room rs₁ h.lines strips₁ h.used;
-      packed = packed_none (seen rs₁);
     }
 
 pub returns : goal.returns

@@ -54,8 +54,8 @@ slot-requires c =
 held_first : (rs₀ rs : List Halfedge) → lines_in (seen rs) ≡ lines_in (seen rs₀) → (i e : ℕ) → suc i ≡ e → (b : Bool) → (turn_of (seen rs)).held (pos e) ≡ b → (lines_in (seen rs₀)).turn.held (pos (suc i)) ≡ b
 held_first rs₀ rs lines i e is b held = ap (λ k. (lines_in (seen rs₀)).turn.held (pos k)) is ∙ ap (λ l. l.turn.held (pos e)) (sym lines) ∙ held
 
-pub plant-edge-known-requires : goal.plant-edge-known-requires
-plant-edge-known-requires c =
+pub plant_edge_past-known-requires : goal.plant_edge_past-known-requires
+plant_edge_past-known-requires c =
     let bs = list_of c.args.-borders.now in
     let rs₀ = c.args.rows.now in
     let rs = c.loop-e.rows in
@@ -98,7 +98,7 @@ next bs rs₀ j i e rs rs' a b is past = let same : suc j ≡ i = omega arith in
 -- the slots that are known to be used go on
 still_packed : (c : goal.Joined-slot-ne0) → Packed c.if-slot-ne0.known (seen c.if-slot-ne0.rows)
 still_packed c = elim c.if-slot-ne0.branch [
-  | then-slot-ne0 w ↦ subst₂ (λ k rs. Packed k (seen rs)) (sym w.known-is) (sym w.rows-is) w.plant-edge-known.ensures.packed
+  | then-slot-ne0 w ↦ subst₂ (λ k rs. Packed k (seen rs)) (sym w.known-is) (sym w.rows-is) w.plant_edge_past-known.ensures.packed
   | else-slot-ne0 w ↦ subst₂ (λ k rs. Packed k (seen rs)) (sym w.known-is) (sym w.rows-is) c.loop-e.invariant.0
 ]
 
@@ -121,10 +121,10 @@ loop-e-preserved c = (
         | then-slot-ne0 w ↦
             let held : (turn_of v).held (pos e) ≡ true = ap not (ne_eqb (v.entry (pos e)) 0 (λ y. w.if-slot-ne0.true (slot_is ∙ y))) in
             let first = held_first rs₀ rs past.1 (e - 1) e e-is true held in
-            let u = seen w.plant-edge-known.new.rows in
-            let planted = subst (λ k. Planted slots (2 * (strips_of v (neg_ℤ (pos k)) - strips_of v (pos k))) (externals k (strips_of v (pos k)) (strips_of v (neg_ℤ (pos k)))) v u) (sym e-is) w.plant-edge-known.ensures.planted in
-            next bs rs₀ (e - 1) i e w.plant-edge-known.new.rows c.if-slot-ne0.rows e-is z w.rows-is
-            (grown bs rs₀ sound (e - 1) rs w.plant-edge-known.new.rows past first w.plant-edge-known.ensures.core planted w.plant-edge-known.ensures.unlinked)
+            let u = seen w.plant_edge_past-known.new.rows in
+            let planted = subst (λ k. Planted slots (2 * (strips_of v (neg_ℤ (pos k)) - strips_of v (pos k))) (externals k (strips_of v (pos k)) (strips_of v (neg_ℤ (pos k)))) v u) (sym e-is) w.plant_edge_past-known.ensures.planted in
+            next bs rs₀ (e - 1) i e w.plant_edge_past-known.new.rows c.if-slot-ne0.rows e-is z w.rows-is
+            (grown bs rs₀ sound (e - 1) rs w.plant_edge_past-known.new.rows past first w.plant_edge_past-known.ensures.core planted w.plant_edge_past-known.ensures.unlinked)
         | else-slot-ne0 w ↦
             let held : (turn_of v).held (pos e) ≡ false = ap not (eq-eqb (v.entry (pos e)) 0 (sym slot_is ∙ w.if-slot-ne0.false)) in
             let first = held_first rs₀ rs past.1 (e - 1) e e-is false held in

@@ -21,7 +21,7 @@ returns-then-self-lt-SLOTS g c =
     let rs = c.args.self.now.rows.at.now in
     let chart = c.args.chart.now in
     let lines = lines_of g.C.Turning.turn g.C.Chart.points chart in
-    let count = c.count-edges-edges in
+    let count = c.count_edges-edges in
     let short : leb slots (length rs) ≡ false = lt-leb slots (length rs) c.if-self-lt-SLOTS.true in
     record {
       told = told_short count.result (edge_count max_edge lines.turn) slots (leb slots (length rs)) count.ensures short;
@@ -29,8 +29,8 @@ returns-then-self-lt-SLOTS g c =
       left = λ _. refl;
     }
 
-pub invariant-of-self : goal.invariant-of-self
-invariant-of-self g c =
-    let e = c.copy-chart.ensures in
-    let kept : Kept c.copy-chart.new.rows.at.now = λ _. record { core = e.core; room = e.used ∙ sym (ap (λ l. 2 * edge_count max_edge l.turn) e.lines) } in
-    (∣ kept ∣₁, tt)
+pub invariant_of-self : goal.invariant_of-self
+invariant_of-self g c =
+    let e = c.copy_chart.ensures in
+    let kept : Kept c.copy_chart.new.rows.at.now = λ _. record { core = e.core; room = e.used ∙ sym (ap (λ l. 2 * edge_count max_edge l.turn) e.lines) } in
+    record { ok = ∣ kept ∣₁ }

@@ -15,47 +15,47 @@ told : (rs : List Halfedge) (e f : ℕ) (p : Point) (fits r : Bool) → r ≡ ma
     → r ≡ may_cleave max_edge (lines_in (seen rs)) (fits_of rs) e f p
 told rs e f p fits r asked room = asked ∙ ap (λ b. may_cleave max_edge (lines_in (seen rs)) (λ _ _. b) e f p) (room p p)
 
-pub returns-then-not-may-cleave : goal.returns-then-not-may-cleave
-returns-then-not-may-cleave c = record {
-  told = told c.args.self.now.rows.at.now c.args.edge c.args.east c.args.at c.has-room-fits.result _ c.if-not-may-cleave.ensures c.has-room-fits.ensures;
+pub returns-then-not-may_cleave : goal.returns-then-not-may_cleave
+returns-then-not-may_cleave c = record {
+  told = told c.args.self.now.rows.at.now c.args.edge c.args.east c.args.at c.has_room-fits.result _ c.if-not-may_cleave.ensures c.has_room-fits.ensures;
   changed = λ t. absurd (false≢true t);
   framed = λ t. absurd (false≢true t);
   kept = λ _. refl;
 }
 
-pub returns-in-default : goal.returns-in-default
-returns-in-default c =
+pub returns-in_default : goal.returns-in_default
+returns-in_default c =
     let a = c.args in
     let rs = a.self.now.rows.at.now in
-    let may = sym (told rs a.edge a.east a.at c.has-room-fits.result true c.if-not-may-cleave.ensures c.has-room-fits.ensures) in
-    absurd (ends_somewhere rs a.self.now.ok a.edge a.east a.at may (sym c.east-end.ensures ∙ c.in-default.is))
+    let may = sym (told rs a.edge a.east a.at c.has_room-fits.result true c.if-not-may_cleave.ensures c.has_room-fits.ensures) in
+    absurd (ends_somewhere rs a.self.now.ok a.edge a.east a.at may (sym c.east_end.ensures ∙ c.in_default.is))
 
-pub cleave-edge-requires : goal.cleave-edge-requires
-cleave-edge-requires c =
+pub cleave_edge-requires : goal.cleave_edge-requires
+cleave_edge-requires c =
     let a = c.args in
     let rs = a.self.now.rows.at.now in
-    let may = sym (told rs a.edge a.east a.at c.has-room-fits.result true c.if-not-may-cleave.ensures c.has-room-fits.ensures) in
-    let h = cleavable rs a.self.now.ok a.edge a.east a.at c.in-Some.to may (sym c.east-end.ensures ∙ c.in-Some.is) in
+    let may = sym (told rs a.edge a.east a.at c.has_room-fits.result true c.if-not-may_cleave.ensures c.has_room-fits.ensures) in
+    let h = cleavable rs a.self.now.ok a.edge a.east a.at c.in-Some.to may (sym c.east_end.ensures ∙ c.in-Some.is) in
     record { core = h.good.core; cuts = h.cuts; room = h.room }
 
-pub invariant-of-self : goal.invariant-of-self
-invariant-of-self c =
+pub invariant_of-self : goal.invariant_of-self
+invariant_of-self c =
     let a = c.args in
     let rs = a.self.now.rows.at.now in
-    let may = sym (told rs a.edge a.east a.at c.has-room-fits.result true c.if-not-may-cleave.ensures c.has-room-fits.ensures) in
-    let h = cleavable rs a.self.now.ok a.edge a.east a.at c.in-Some.to may (sym c.east-end.ensures ∙ c.in-Some.is) in
-    let e = c.cleave-edge.ensures in
-    (∣ (λ _. cleft_good rs _ h.good a.edge a.east a.at h.cuts.low h.cuts.high h.cuts.new e.lines e.core e.used) ∣₁, tt)
+    let may = sym (told rs a.edge a.east a.at c.has_room-fits.result true c.if-not-may_cleave.ensures c.has_room-fits.ensures) in
+    let h = cleavable rs a.self.now.ok a.edge a.east a.at c.in-Some.to may (sym c.east_end.ensures ∙ c.in-Some.is) in
+    let e = c.cleave_edge.ensures in
+    record { ok = ∣ (λ _. cleft_good rs _ h.good a.edge a.east a.at h.cuts.low h.cuts.high h.cuts.new e.lines e.core e.used) ∣₁ }
 
 pub returns : goal.returns
 returns c = record {
-  told = told c.args.self.now.rows.at.now c.args.edge c.args.east c.args.at c.has-room-fits.result true c.if-not-may-cleave.ensures c.has-room-fits.ensures;
-  changed = λ _. c.cleave-edge.ensures.lines;
+  told = told c.args.self.now.rows.at.now c.args.edge c.args.east c.args.at c.has_room-fits.result true c.if-not-may_cleave.ensures c.has_room-fits.ensures;
+  changed = λ _. c.cleave_edge.ensures.lines;
   framed = λ _.
       let a = c.args in
       let rs = a.self.now.rows.at.now in
-      let may = sym (told rs a.edge a.east a.at c.has-room-fits.result true c.if-not-may-cleave.ensures c.has-room-fits.ensures) in
-      let h = cleavable rs a.self.now.ok a.edge a.east a.at c.in-Some.to may (sym c.east-end.ensures ∙ c.in-Some.is) in
-      same_frame rs _ h.good.core.roomy.long c.cleave-edge.ensures.core;
+      let may = sym (told rs a.edge a.east a.at c.has_room-fits.result true c.if-not-may_cleave.ensures c.has_room-fits.ensures) in
+      let h = cleavable rs a.self.now.ok a.edge a.east a.at c.in-Some.to may (sym c.east_end.ensures ∙ c.in-Some.is) in
+      same_frame rs _ h.good.core.roomy.long c.cleave_edge.ensures.core;
   kept = λ f. absurd (true≢false f);
 }

@@ -16,43 +16,43 @@ told : (rs : List Halfedge) (e : ℕ) (a b : End) (fits r : Bool) → r ≡ may_
     → r ≡ may_hang max_edge (lines_in (seen rs)) (fits_of rs) e a b
 told rs e a b fits r asked room = asked ∙ ap (λ f. may_hang max_edge (lines_in (seen rs)) (λ _ _. f) e a b) (room a.point b.point)
 
-pub returns-then-not-may-hang : goal.returns-then-not-may-hang
-returns-then-not-may-hang c = record {
-  told = told c.args.self.now.rows.at.now c.args.edge c.args.a c.args.b c.has-room-fits.result _ c.if-not-may-hang.ensures c.has-room-fits.ensures;
+pub returns-then-not-may_hang : goal.returns-then-not-may_hang
+returns-then-not-may_hang c = record {
+  told = told c.args.self.now.rows.at.now c.args.edge c.args.a c.args.b c.has_room-fits.result _ c.if-not-may_hang.ensures c.has_room-fits.ensures;
   changed = λ t. absurd (false≢true t);
   framed = λ t. absurd (false≢true t);
   kept = λ _. refl;
 }
 
-pub hang-edge-requires : goal.hang-edge-requires
-hang-edge-requires c =
+pub hang_edge-requires : goal.hang_edge-requires
+hang_edge-requires c =
     let a = c.args in
     let rs = a.self.now.rows.at.now in
-    let w = c.west-to-east in
-    let may = sym (told rs a.edge a.a a.b c.has-room-fits.result true c.if-not-may-hang.ensures c.has-room-fits.ensures) in
+    let w = c.west_to_east in
+    let may = sym (told rs a.edge a.a a.b c.has_room-fits.result true c.if-not-may_hang.ensures c.has_room-fits.ensures) in
     let h = hangable rs a.self.now.ok a.edge a.a a.b w.result may w.ensures.west w.ensures.east in
     record { core = h.good.core; ends = h.ends; room = h.room }
 
-pub invariant-of-self : goal.invariant-of-self
-invariant-of-self c =
+pub invariant_of-self : goal.invariant_of-self
+invariant_of-self c =
     let a = c.args in
     let rs = a.self.now.rows.at.now in
-    let w = c.west-to-east in
-    let may = sym (told rs a.edge a.a a.b c.has-room-fits.result true c.if-not-may-hang.ensures c.has-room-fits.ensures) in
+    let w = c.west_to_east in
+    let may = sym (told rs a.edge a.a a.b c.has_room-fits.result true c.if-not-may_hang.ensures c.has_room-fits.ensures) in
     let h = hangable rs a.self.now.ok a.edge a.a a.b w.result may w.ensures.west w.ensures.east in
-    let e = c.hang-edge.ensures in
-    (∣ (λ _. hung_good rs _ h.good a.edge w.result.0 w.result.1 h.ends.low h.ends.high h.ends.new e.lines e.core e.used) ∣₁, tt)
+    let e = c.hang_edge.ensures in
+    record { ok = ∣ (λ _. hung_good rs _ h.good a.edge w.result.0 w.result.1 h.ends.low h.ends.high h.ends.new e.lines e.core e.used) ∣₁ }
 
 pub returns : goal.returns
 returns c = record {
-  told = told c.args.self.now.rows.at.now c.args.edge c.args.a c.args.b c.has-room-fits.result true c.if-not-may-hang.ensures c.has-room-fits.ensures;
-  changed = λ _. c.hang-edge.ensures.lines ∙ ap₂ (λ x y. hung_between c.args.edge x y (lines_in (seen c.args.self.now.rows.at.now))) c.west-to-east.ensures.west c.west-to-east.ensures.east;
+  told = told c.args.self.now.rows.at.now c.args.edge c.args.a c.args.b c.has_room-fits.result true c.if-not-may_hang.ensures c.has_room-fits.ensures;
+  changed = λ _. c.hang_edge.ensures.lines ∙ ap₂ (λ x y. hung_between c.args.edge x y (lines_in (seen c.args.self.now.rows.at.now))) c.west_to_east.ensures.west c.west_to_east.ensures.east;
   framed = λ _.
       let a = c.args in
       let rs = a.self.now.rows.at.now in
-      let w = c.west-to-east in
-      let may = sym (told rs a.edge a.a a.b c.has-room-fits.result true c.if-not-may-hang.ensures c.has-room-fits.ensures) in
+      let w = c.west_to_east in
+      let may = sym (told rs a.edge a.a a.b c.has_room-fits.result true c.if-not-may_hang.ensures c.has_room-fits.ensures) in
       let h = hangable rs a.self.now.ok a.edge a.a a.b w.result may w.ensures.west w.ensures.east in
-      same_frame rs _ h.good.core.roomy.long c.hang-edge.ensures.core;
+      same_frame rs _ h.good.core.roomy.long c.hang_edge.ensures.core;
   kept = λ f. absurd (true≢false f);
 }

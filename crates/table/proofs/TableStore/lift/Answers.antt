@@ -3,18 +3,18 @@ use Rattle.turning.specs.Limits.{slots}
 use Rattle.table.proofs.Kept.{kept_out, held_long, lifted_good, same_frame}
 use Rattle.table.proofs.TableStore.lift.Goals as goal
 
-pub lift-edge-requires : goal.lift-edge-requires
-lift-edge-requires c =
+pub lift_edge-requires : goal.lift_edge-requires
+lift_edge-requires c =
     let rs = c.args.self.now.rows.at.now in
-    let here = sym c.if-not-holds-edge.ensures in
+    let here = sym c.if-not-holds_edge.ensures in
     record { core = (kept_out rs c.args.self.now.ok (held_long rs _ here)).core; here = here }
 
-pub invariant-of-self : goal.invariant-of-self
-invariant-of-self c =
+pub invariant_of-self : goal.invariant_of-self
+invariant_of-self c =
     let rs = c.args.self.now.rows.at.now in
-    let here = sym c.if-not-holds-edge.ensures in
-    let e = c.lift-edge.ensures in
-    (∣ (λ _. lifted_good rs _ (kept_out rs c.args.self.now.ok (held_long rs _ here)) c.args.edge here e.lines e.core e.used) ∣₁, tt)
+    let here = sym c.if-not-holds_edge.ensures in
+    let e = c.lift_edge.ensures in
+    record { ok = ∣ (λ _. lifted_good rs _ (kept_out rs c.args.self.now.ok (held_long rs _ here)) c.args.edge here e.lines e.core e.used) ∣₁ }
 
 pub returns : goal.returns
 returns c = record {
@@ -22,7 +22,7 @@ returns c = record {
   changed = search rules;
   framed = λ _.
       let rs = c.args.self.now.rows.at.now in
-      let here = sym c.if-not-holds-edge.ensures in
-      same_frame rs _ (held_long rs _ here) c.lift-edge.ensures.core;
+      let here = sym c.if-not-holds_edge.ensures in
+      same_frame rs _ (held_long rs _ here) c.lift_edge.ensures.core;
   kept = search rules;
 }

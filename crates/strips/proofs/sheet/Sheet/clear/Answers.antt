@@ -15,7 +15,7 @@ invariant-of-self c =
     let rs = c.free-rows.new.rows.at.now in
     let same = c.free-rows.ensures.length in
     let kept : Kept bs rs = λ long. blank_stripped bs rs (c.free-rows.ensures.freed (omega arith)) long in
-    (∣ kept ∣₁, (ap rising c.none-self.ensures, tt))
+    record { ok = ∣ kept ∣₁; rises = ap rising c.none-self.ensures }
 
 pub returns : goal.returns
 returns c =

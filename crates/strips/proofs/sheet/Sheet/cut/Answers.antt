@@ -31,7 +31,7 @@ invariant-of-self c =
     let inside : within x ≡ true = sym (simp to_z-of_z at c.if-not-is-within.ensures) in
     let new : is_border x bs ≡ false = sym (simp to_z-of_z at c.if-has-border.ensures) in
     let put : list_of c.put-in-borders.result ≡ with_border x bs = simp to_z-of_z at c.put-in-borders.ensures in
-    (∣ c.lay-out.ensures.kept ∣₁, (ap rising put ∙ rise_with x bs s.rises inside new, tt))
+    record { ok = ∣ c.lay-out.ensures.kept ∣₁; rises = ap rising put ∙ rise_with x bs s.rises inside new }
 
 pub returns-then-slots-needed-slot-count : goal.returns-then-slots-needed-slot-count
 returns-then-slots-needed-slot-count c =

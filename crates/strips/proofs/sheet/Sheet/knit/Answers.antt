@@ -34,7 +34,7 @@ invariant-of-self c =
     let x = c.args.x in
     let fx : SFits w32 x = c.ranges.x in
     let out : list_of c.take-out-borders.result ≡ without_border x bs = simp to_z-of_z at c.take-out-borders.ensures in
-    (∣ c.lay-out.ensures.kept ∣₁, (ap rising out ∙ rise_without x bs s.rises, tt))
+    record { ok = ∣ c.lay-out.ensures.kept ∣₁; rises = ap rising out ∙ rise_without x bs s.rises }
 
 pub returns : goal.returns
 returns c =

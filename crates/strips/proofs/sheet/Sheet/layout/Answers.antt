@@ -24,7 +24,7 @@ put-chart-requires g c =
 pub invariant-of-self : goal.invariant-of-self
 invariant-of-self g c =
     let p = passed c.args.borders.now (list_of c.in-ok-cut.cut) c.in-ok-cut.ensures in
-    (∣ c.put-chart.ensures.kept ∣₁, (ap rising p.0 ∙ p.2, tt))
+    record { ok = ∣ c.put-chart.ensures.kept ∣₁; rises = ap rising p.0 ∙ p.2 }
 
 pub returns : goal.returns
 returns g c =

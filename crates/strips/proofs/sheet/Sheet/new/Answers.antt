@@ -24,7 +24,7 @@ invariant-of-result c =
           subst (Stripped max_edge slots bs) is (blank_stripped bs freed w.free-all.ensures l)
       | else-memory-ge-SLOTS w ↦ λ long. absurd (let short = w.if-memory-ge-SLOTS.false in let same = ap length w.memory-is in omega arith)
     ] in
-    (∣ kept ∣₁, (ap rising c.none.ensures, tt))
+    record { ok = ∣ kept ∣₁; rises = ap rising c.none.ensures }
 
 pub returns : goal.returns
 returns c =

@@ -36,7 +36,7 @@ cleave-through-requires c =
     record { stripped = h.stripped; cuts = h.cuts; room = h.room }
 
 pub invariant-of-self : goal.invariant-of-self
-invariant-of-self c = (∣ (λ _. c.cleave-through.ensures.stripped) ∣₁, (c.args.self.now.rises, tt))
+invariant-of-self c = record { ok = ∣ (λ _. c.cleave-through.ensures.stripped) ∣₁; rises = c.args.self.now.rises }
 
 pub returns : goal.returns
 returns c = record {

@@ -28,7 +28,7 @@ hang-through-requires c =
     record { stripped = h.stripped; ends = h.ends; room = h.room }
 
 pub invariant-of-self : goal.invariant-of-self
-invariant-of-self c = (∣ (λ _. c.hang-through.ensures.stripped) ∣₁, (c.args.self.now.rises, tt))
+invariant-of-self c = record { ok = ∣ (λ _. c.hang-through.ensures.stripped) ∣₁; rises = c.args.self.now.rises }
 
 pub returns : goal.returns
 returns c = record {

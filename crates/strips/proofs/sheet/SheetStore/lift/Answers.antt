@@ -10,7 +10,7 @@ lift-through-requires c =
     record { stripped = kept_out (list_of s.borders) s.rows.at.now s.ok (held_long s.rows.at.now _ here); here = here }
 
 pub invariant-of-self : goal.invariant-of-self
-invariant-of-self c = (∣ (λ _. c.lift-through.ensures.stripped) ∣₁, (c.args.self.now.rises, tt))
+invariant-of-self c = record { ok = ∣ (λ _. c.lift-through.ensures.stripped) ∣₁; rises = c.args.self.now.rises }
 
 pub returns : goal.returns
 returns c = record {

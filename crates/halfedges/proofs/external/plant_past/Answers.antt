@@ -7,7 +7,7 @@ use Rattle.halfedges.specs.View.{seen, written}
 use Rattle.halfedges.specs.Rows.{Packed, Unlinked, Indexed, same_place, Planted}
 use Rattle.halfedges.proofs.Beside.{free_off, beside_indexed, beside_unlinked, beside_planted, core_same}
 use Rattle.halfedges.proofs.Counted.{packed_more}
-use Rattle.halfedges.proofs.external.plant.Goals as goal
+use Rattle.halfedges.proofs.external.plant_past.Goals as goal
 
 pub returns : goal.returns
 returns c =
@@ -15,8 +15,8 @@ returns c =
     let rs' = c.write.new.rows in
     let v = seen rs in
     let k = c.args.k in
-    let s = c.free_slot-s.result in
-    let f = c.free_slot-s.ensures in
+    let s = c.free_slot_past-s.result in
+    let f = c.free_slot_past-s.ensures in
     let core = c.requires.core in
     let off = free_off slots v core.indexed core.sound.0.no_zero s f.low f.free in
     let r : Halfedge = record { strip = c.args.strip; name = k; follower = pos 0; predecessor = pos 0; x = pos 0; y = pos 0; index = [] } in

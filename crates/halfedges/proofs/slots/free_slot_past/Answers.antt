@@ -7,7 +7,7 @@ use Rattle.halfedges.specs.View.{seen, none}
 use Rattle.halfedges.specs.Rows.{taken_row}
 use Rattle.halfedges.proofs.Views.{row_is}
 use Rattle.halfedges.proofs.Counted.{full}
-use Rattle.halfedges.proofs.slots.free_slot.Goals as goal
+use Rattle.halfedges.proofs.slots.free_slot_past.Goals as goal
 
 pub loop-i-init : goal.loop-i-init
 loop-i-init c = c.requires.packed

@@ -2,7 +2,7 @@ use Rattle.std.proofs.Common.{◌-◌, ◌*◌}
 use Rattle.turning.specs.Limits.{max_edge, slots}
 use Rattle.halfedges.specs.View.{seen}
 use Rattle.halfedges.specs.Rows.{Packed, Unlinked, externals, Planted, Core}
-use Rattle.halfedges.proofs.external.plant_edge.Given as goal
+use Rattle.halfedges.proofs.external.plant_edge_past.Given as goal
 
 -- the rows over the borders west of strip i are there
 abbrev pub invariant-loop-i : goal.invariant-loop-i

@@ -11,9 +11,9 @@ pub returns : goal.returns
 returns c =
     let m = c.args.marks.now in
     let l = c.args.line.now in
-    let e : enough max_edge m l ≡ true = enough_both max_edge m l c.if-marks-lt-MARK-BYTES.false c.if-line-lt-LINE-NAMES.false in
+    let e : enough max_edge m l ≡ true = enough_both max_edge m l c.if-marks-lt-MARK_BYTES.false c.if-line-lt-LINE_NAMES.false in
     record {
-      answer = c.judge-within.ensures.answer ∙ sym (ap (λ b. answered (verdict_by b c.args.bytes.now) tt) e);
-      zero = wiped_part (marks_for max_edge) 0 m c.judge-within.new.marks c.if-marks-lt-MARK-BYTES.false c.judge-within.ensures.zero ∙ sym (cond-true (enough max_edge m l) _ _ e);
-      empty = wiped_part (line_for max_edge) (pos 0) l c.judge-within.new.line c.if-line-lt-LINE-NAMES.false c.judge-within.ensures.empty ∙ sym (cond-true (enough max_edge m l) _ _ e);
+      answer = c.judge_within.ensures.answer ∙ sym (ap (λ b. answered (verdict_by b c.args.bytes.now) tt) e);
+      zero = wiped_part (marks_for max_edge) 0 m c.judge_within.new.marks c.if-marks-lt-MARK_BYTES.false c.judge_within.ensures.zero ∙ sym (cond-true (enough max_edge m l) _ _ e);
+      empty = wiped_part (line_for max_edge) (pos 0) l c.judge_within.new.line c.if-line-lt-LINE_NAMES.false c.judge_within.ensures.empty ∙ sym (cond-true (enough max_edge m l) _ _ e);
     }

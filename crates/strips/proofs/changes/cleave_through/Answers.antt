@@ -11,8 +11,8 @@ use Rattle.strips.proofs.Lifting.{held_eastward, held_there}
 use Rattle.strips.proofs.Cleaving.{cleave_cuts₁, cleave_room₁, cleave_here₂, cleave_eastward₂, cleave_room₂, cleave_here₃, cleave_eastward₃, cleave_room₃, cleave_lines, cleave_stripped}
 use Rattle.strips.proofs.changes.cleave_through.Goals as goal
 
-pub uproot-edge-requires : goal.uproot-edge-requires
-uproot-edge-requires c =
+pub uproot_edge-requires : goal.uproot_edge-requires
+uproot_edge-requires c =
     let p = c.requires in
     let a = c.args in
     let bs = list_of a.borders in
@@ -24,33 +24,33 @@ uproot-edge-requires c =
       there = held_there bs rs p.stripped a.edge p.cuts.here;
     }
 
-pub cleave-edge-requires : goal.cleave-edge-requires
-cleave-edge-requires c =
+pub cleave_edge-requires : goal.cleave_edge-requires
+cleave_edge-requires c =
     let p = c.requires in
     let a = c.args in
     let bs = list_of a.borders in
     let rs = a.rows.now.at.now in
-    let u = c.uproot-edge.ensures in
+    let u = c.uproot_edge.ensures in
     record {
       core = u.core;
-      cuts = cleave_cuts₁ bs rs p.stripped a.edge a.east a.at a.to p.cuts p.room c.uproot-edge.new.rows u.planted;
-      room = cleave_room₁ bs rs p.stripped a.edge a.east a.at a.to p.cuts p.room c.uproot-edge.new.rows u.planted;
+      cuts = cleave_cuts₁ bs rs p.stripped a.edge a.east a.at a.to p.cuts p.room c.uproot_edge.new.rows u.planted;
+      room = cleave_room₁ bs rs p.stripped a.edge a.east a.at a.to p.cuts p.room c.uproot_edge.new.rows u.planted;
     }
 
-pub plant-edge-requires : goal.plant-edge-requires
-plant-edge-requires c =
+pub plant_edge-requires : goal.plant_edge-requires
+plant_edge-requires c =
     let p = c.requires in
     let a = c.args in
     let bs = list_of a.borders in
     let rs = a.rows.now.at.now in
-    let rs₁ = c.uproot-edge.new.rows in
-    let rs₂ = c.cleave-edge.new.rows.at.now in
-    let u = c.uproot-edge.ensures in
-    let f = c.cleave-edge.ensures in
+    let rs₁ = c.uproot_edge.new.rows in
+    let rs₂ = c.cleave_edge.new.rows.at.now in
+    let u = c.uproot_edge.ensures in
+    let f = c.cleave_edge.ensures in
     let fp : SFits w32 a.at.x = search rules in
     let fq : SFits w32 a.to.x = search rules in
-    let middle : c.strip-of-middle.result ≡ strip_of bs a.at.x = c.strip-of-middle.ensures ∙ ap (strip_of bs) (to_z-of_z w32 _ fp) in
-    let last : c.strip-of-last.result ≡ strip_of bs a.to.x = c.strip-of-last.ensures ∙ ap (strip_of bs) (to_z-of_z w32 _ fq) in
+    let middle : c.strip_of-middle.result ≡ strip_of bs a.at.x = c.strip_of-middle.ensures ∙ ap (strip_of bs) (to_z-of_z w32 _ fp) in
+    let last : c.strip_of-last.result ≡ strip_of bs a.to.x = c.strip_of-last.ensures ∙ ap (strip_of bs) (to_z-of_z w32 _ fq) in
     let strips₂ : strips_of (seen rs₂) ≡ at (pos a.east) (strip_of bs a.at.x) (at (neg_ℤ (pos a.edge)) (strip_of bs a.at.x) (at (neg_ℤ (pos a.east)) (strip_of bs a.to.x) (strips_of (seen rs₁)))) =
     f.strips ∙ ap₂ (λ x y. at (pos a.east) x (at (neg_ℤ (pos a.edge)) x (at (neg_ℤ (pos a.east)) y (strips_of (seen rs₁))))) middle last in
     record {
@@ -60,24 +60,24 @@ plant-edge-requires c =
       room = cleave_room₂ bs rs p.stripped a.edge a.east a.at a.to p.cuts p.room rs₁ u.planted rs₂ f.lines f.used strips₂;
     }
 
-pub plant-edge-requires-2 : goal.plant-edge-requires-2
-plant-edge-requires-2 c =
+pub plant_edge-requires-2 : goal.plant_edge-requires-2
+plant_edge-requires-2 c =
     let p = c.requires in
     let a = c.args in
     let bs = list_of a.borders in
     let rs = a.rows.now.at.now in
-    let rs₁ = c.uproot-edge.new.rows in
-    let rs₂ = c.cleave-edge.new.rows.at.now in
-    let u = c.uproot-edge.ensures in
-    let f = c.cleave-edge.ensures in
+    let rs₁ = c.uproot_edge.new.rows in
+    let rs₂ = c.cleave_edge.new.rows.at.now in
+    let u = c.uproot_edge.ensures in
+    let f = c.cleave_edge.ensures in
     let fp : SFits w32 a.at.x = search rules in
     let fq : SFits w32 a.to.x = search rules in
-    let middle : c.strip-of-middle.result ≡ strip_of bs a.at.x = c.strip-of-middle.ensures ∙ ap (strip_of bs) (to_z-of_z w32 _ fp) in
-    let last : c.strip-of-last.result ≡ strip_of bs a.to.x = c.strip-of-last.ensures ∙ ap (strip_of bs) (to_z-of_z w32 _ fq) in
+    let middle : c.strip_of-middle.result ≡ strip_of bs a.at.x = c.strip_of-middle.ensures ∙ ap (strip_of bs) (to_z-of_z w32 _ fp) in
+    let last : c.strip_of-last.result ≡ strip_of bs a.to.x = c.strip_of-last.ensures ∙ ap (strip_of bs) (to_z-of_z w32 _ fq) in
     let strips₂ : strips_of (seen rs₂) ≡ at (pos a.east) (strip_of bs a.at.x) (at (neg_ℤ (pos a.edge)) (strip_of bs a.at.x) (at (neg_ℤ (pos a.east)) (strip_of bs a.to.x) (strips_of (seen rs₁)))) =
     f.strips ∙ ap₂ (λ x y. at (pos a.east) x (at (neg_ℤ (pos a.edge)) x (at (neg_ℤ (pos a.east)) y (strips_of (seen rs₁))))) middle last in
-    let rs₃ = c.plant-edge.new.rows in
-    let g = c.plant-edge.ensures in
+    let rs₃ = c.plant_edge.new.rows in
+    let g = c.plant_edge.ensures in
     record {
       core = g.core;
       here = cleave_here₃ bs rs p.stripped a.edge a.east a.at a.to p.cuts p.room rs₁ u.planted rs₂ f.lines f.used strips₂ rs₃ g.planted;
@@ -91,20 +91,20 @@ returns c =
     let a = c.args in
     let bs = list_of a.borders in
     let rs = a.rows.now.at.now in
-    let rs₁ = c.uproot-edge.new.rows in
-    let rs₂ = c.cleave-edge.new.rows.at.now in
-    let u = c.uproot-edge.ensures in
-    let f = c.cleave-edge.ensures in
+    let rs₁ = c.uproot_edge.new.rows in
+    let rs₂ = c.cleave_edge.new.rows.at.now in
+    let u = c.uproot_edge.ensures in
+    let f = c.cleave_edge.ensures in
     let fp : SFits w32 a.at.x = search rules in
     let fq : SFits w32 a.to.x = search rules in
-    let middle : c.strip-of-middle.result ≡ strip_of bs a.at.x = c.strip-of-middle.ensures ∙ ap (strip_of bs) (to_z-of_z w32 _ fp) in
-    let last : c.strip-of-last.result ≡ strip_of bs a.to.x = c.strip-of-last.ensures ∙ ap (strip_of bs) (to_z-of_z w32 _ fq) in
+    let middle : c.strip_of-middle.result ≡ strip_of bs a.at.x = c.strip_of-middle.ensures ∙ ap (strip_of bs) (to_z-of_z w32 _ fp) in
+    let last : c.strip_of-last.result ≡ strip_of bs a.to.x = c.strip_of-last.ensures ∙ ap (strip_of bs) (to_z-of_z w32 _ fq) in
     let strips₂ : strips_of (seen rs₂) ≡ at (pos a.east) (strip_of bs a.at.x) (at (neg_ℤ (pos a.edge)) (strip_of bs a.at.x) (at (neg_ℤ (pos a.east)) (strip_of bs a.to.x) (strips_of (seen rs₁)))) =
     f.strips ∙ ap₂ (λ x y. at (pos a.east) x (at (neg_ℤ (pos a.edge)) x (at (neg_ℤ (pos a.east)) y (strips_of (seen rs₁))))) middle last in
-    let rs₃ = c.plant-edge.new.rows in
-    let g = c.plant-edge.ensures in
-    let rs₄ = c.plant-edge-2.new.rows in
-    let k = c.plant-edge-2.ensures in
+    let rs₃ = c.plant_edge.new.rows in
+    let g = c.plant_edge.ensures in
+    let rs₄ = c.plant_edge-2.new.rows in
+    let k = c.plant_edge-2.ensures in
     let counted₂ = subst₂ (λ x y. (i : ℕ) (n : ℤ) → (n ≡ pos 0 → ⊥)
     → indicator (same_place (strips_of (seen rs₁) (neg_ℤ (pos a.edge))) (neg_ℤ (pos a.edge)) i n) + slot_count slots (seen rs₂) i n
     ≡ indicator (same_place x (pos a.east) i n) + (indicator (same_place x (neg_ℤ (pos a.edge)) i n) + (indicator (same_place y (neg_ℤ (pos a.east)) i n) + slot_count slots (seen rs₁) i n))) middle last f.counted in

@@ -10,24 +10,24 @@ use Rattle.strips.specs.Cuts.{list_of}
 use Rattle.strips.proofs.Keeping.{hang_room₀, hang_here₁, hang_eastward₁, hang_room₁, hang_lines, hang_stripped}
 use Rattle.strips.proofs.changes.hang_through.Goals as goal
 
-pub hang-edge-requires : goal.hang-edge-requires
-hang-edge-requires c =
+pub hang_edge-requires : goal.hang_edge-requires
+hang_edge-requires c =
     let p = c.requires in
     let a = c.args in
     record { core = p.stripped.core; ends = p.ends; room = hang_room₀ (list_of a.borders) a.rows.now.at.now p.stripped a.edge a.start a.end p.ends p.room }
 
-pub plant-edge-requires : goal.plant-edge-requires
-plant-edge-requires c =
+pub plant_edge-requires : goal.plant_edge-requires
+plant_edge-requires c =
     let p = c.requires in
     let a = c.args in
     let bs = list_of a.borders in
     let rs = a.rows.now.at.now in
-    let rs₁ = c.hang-edge.new.rows.at.now in
-    let h = c.hang-edge.ensures in
+    let rs₁ = c.hang_edge.new.rows.at.now in
+    let h = c.hang_edge.ensures in
     let fa : SFits w32 a.start.point.x = search rules in
     let fb : SFits w32 a.end.point.x = search rules in
-    let west : c.strip-of-west.result ≡ strip_of bs a.start.point.x = c.strip-of-west.ensures ∙ ap (strip_of bs) (to_z-of_z w32 _ fa) in
-    let east : c.strip-of-east.result ≡ strip_of bs a.end.point.x = c.strip-of-east.ensures ∙ ap (strip_of bs) (to_z-of_z w32 _ fb) in
+    let west : c.strip_of-west.result ≡ strip_of bs a.start.point.x = c.strip_of-west.ensures ∙ ap (strip_of bs) (to_z-of_z w32 _ fa) in
+    let east : c.strip_of-east.result ≡ strip_of bs a.end.point.x = c.strip_of-east.ensures ∙ ap (strip_of bs) (to_z-of_z w32 _ fb) in
     let strips₁ : strips_of (seen rs₁) ≡ at (neg_ℤ (pos a.edge)) (strip_of bs a.end.point.x) (at (pos a.edge) (strip_of bs a.start.point.x) (strips_of (seen rs))) =
     h.strips ∙ ap₂ (λ x y. at (neg_ℤ (pos a.edge)) y (at (pos a.edge) x (strips_of (seen rs)))) west east in
     record {
@@ -43,14 +43,14 @@ returns c =
     let a = c.args in
     let bs = list_of a.borders in
     let rs = a.rows.now.at.now in
-    let rs₁ = c.hang-edge.new.rows.at.now in
-    let rs₂ = c.plant-edge.new.rows in
-    let h = c.hang-edge.ensures in
-    let g = c.plant-edge.ensures in
+    let rs₁ = c.hang_edge.new.rows.at.now in
+    let rs₂ = c.plant_edge.new.rows in
+    let h = c.hang_edge.ensures in
+    let g = c.plant_edge.ensures in
     let fa : SFits w32 a.start.point.x = search rules in
     let fb : SFits w32 a.end.point.x = search rules in
-    let west : c.strip-of-west.result ≡ strip_of bs a.start.point.x = c.strip-of-west.ensures ∙ ap (strip_of bs) (to_z-of_z w32 _ fa) in
-    let east : c.strip-of-east.result ≡ strip_of bs a.end.point.x = c.strip-of-east.ensures ∙ ap (strip_of bs) (to_z-of_z w32 _ fb) in
+    let west : c.strip_of-west.result ≡ strip_of bs a.start.point.x = c.strip_of-west.ensures ∙ ap (strip_of bs) (to_z-of_z w32 _ fa) in
+    let east : c.strip_of-east.result ≡ strip_of bs a.end.point.x = c.strip_of-east.ensures ∙ ap (strip_of bs) (to_z-of_z w32 _ fb) in
     let strips₁ : strips_of (seen rs₁) ≡ at (neg_ℤ (pos a.edge)) (strip_of bs a.end.point.x) (at (pos a.edge) (strip_of bs a.start.point.x) (strips_of (seen rs))) =
     h.strips ∙ ap₂ (λ x y. at (neg_ℤ (pos a.edge)) y (at (pos a.edge) x (strips_of (seen rs)))) west east in
     let counted₁ = subst₂ (λ x y. (i : ℕ) (n : ℤ) → (n ≡ pos 0 → ⊥) → slot_count slots (seen rs₁) i n ≡ indicator (same_place y (neg_ℤ (pos a.edge)) i n) + (indicator (same_place x (pos a.edge) i n) + slot_count slots (seen rs) i n)) west east h.counted in

@@ -2,11 +2,11 @@ use Rattle.strips.specs.Cuts.{list_of}
 use Rattle.strips.proofs.Lifting.{held_eastward, held_there, gone_here, lift_lines, lift_stripped}
 use Rattle.strips.proofs.changes.lift_through.Goals as goal
 
-pub uproot-edge-requires : goal.uproot-edge-requires
-uproot-edge-requires c =
+pub uproot_edge-requires : goal.uproot_edge-requires
+uproot_edge-requires c =
     let p = c.requires in
     let a = c.args in
-    let bs = list_of a.-borders in
+    let bs = list_of a._borders in
     let rs = a.rows.now.at.now in
     record {
       core = p.stripped.core;
@@ -15,23 +15,23 @@ uproot-edge-requires c =
       there = held_there bs rs p.stripped a.edge p.here;
     }
 
-pub lift-edge-requires : goal.lift-edge-requires
-lift-edge-requires c =
+pub lift_edge-requires : goal.lift_edge-requires
+lift_edge-requires c =
     let p = c.requires in
     let a = c.args in
-    let u = c.uproot-edge.ensures in
-    record { core = u.core; here = gone_here (list_of a.-borders) a.rows.now.at.now p.stripped a.edge p.here c.uproot-edge.new.rows u.planted }
+    let u = c.uproot_edge.ensures in
+    record { core = u.core; here = gone_here (list_of a._borders) a.rows.now.at.now p.stripped a.edge p.here c.uproot_edge.new.rows u.planted }
 
 pub returns : goal.returns
 returns c =
     let p = c.requires in
     let a = c.args in
-    let bs = list_of a.-borders in
+    let bs = list_of a._borders in
     let rs = a.rows.now.at.now in
-    let rs₁ = c.uproot-edge.new.rows in
-    let rs₂ = c.lift-edge.new.rows.at.now in
-    let u = c.uproot-edge.ensures in
-    let f = c.lift-edge.ensures in
+    let rs₁ = c.uproot_edge.new.rows in
+    let rs₂ = c.lift_edge.new.rows.at.now in
+    let u = c.uproot_edge.ensures in
+    let f = c.lift_edge.ensures in
     record {
       stripped = lift_stripped bs rs p.stripped a.edge p.here rs₁ u.planted u.unlinked rs₂ f.core f.lines f.used f.strips f.counted f.unlinked;
       lines = lift_lines bs rs p.stripped a.edge p.here rs₁ u.planted u.unlinked rs₂ f.core f.lines f.used f.strips f.counted f.unlinked;

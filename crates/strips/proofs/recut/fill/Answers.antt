@@ -6,8 +6,8 @@ use Rattle.strips.specs.Cuts.{list_of}
 use Rattle.strips.proofs.Planting.{edges_within}
 use Rattle.strips.proofs.recut.fill.Goals as goal
 
-pub copy-chart-requires : goal.copy-chart-requires
-copy-chart-requires g c =
+pub copy_chart-requires : goal.copy_chart-requires
+copy_chart-requires g c =
     let bs = list_of c.args.borders in
     let lines = lines_of g.C.Turning.turn g.C.Chart.points c.args.chart.now in
     record { long = c.requires.long; room = omega (arith, edges_within bs lines max_edge, c.requires.room) }
@@ -15,7 +15,7 @@ copy-chart-requires g c =
 pub recut-requires : goal.recut-requires
 recut-requires g c =
     let bs = list_of c.args.borders in
-    record { core = c.copy-chart.ensures.core; room = subst (λ l. slots_taken bs l max_edge ≤ slots) (sym c.copy-chart.ensures.lines) c.requires.room }
+    record { core = c.copy_chart.ensures.core; room = subst (λ l. slots_taken bs l max_edge ≤ slots) (sym c.copy_chart.ensures.lines) c.requires.room }
 
 pub returns : goal.returns
-returns g c = record { stripped = c.recut.ensures.stripped; lines = c.recut.ensures.lines ∙ c.copy-chart.ensures.lines; length = c.recut.ensures.length ∙ c.copy-chart.ensures.length }
+returns g c = record { stripped = c.recut.ensures.stripped; lines = c.recut.ensures.lines ∙ c.copy_chart.ensures.lines; length = c.recut.ensures.length ∙ c.copy_chart.ensures.length }

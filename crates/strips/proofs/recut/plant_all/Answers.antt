@@ -25,7 +25,7 @@ pub loop-e-init : goal.loop-e-init
 loop-e-init c = (
   packed_none (seen c.args.rows.now),
   λ i z.
-      let bs = list_of c.args.-borders.now in
+      let bs = list_of c.args._borders.now in
       let rs = c.args.rows.now in
       let v = seen rs in
       let core = c.requires.core in
@@ -56,7 +56,7 @@ held_first rs₀ rs lines i e is b held = ap (λ k. (lines_in (seen rs₀)).turn
 
 pub plant_edge_past-known-requires : goal.plant_edge_past-known-requires
 plant_edge_past-known-requires c =
-    let bs = list_of c.args.-borders.now in
+    let bs = list_of c.args._borders.now in
     let rs₀ = c.args.rows.now in
     let rs = c.loop-e.rows in
     let v = seen rs in
@@ -106,7 +106,7 @@ pub loop-e-preserved : goal.loop-e-preserved
 loop-e-preserved c = (
   still_packed c,
   λ i z.
-      let bs = list_of c.args.-borders.now in
+      let bs = list_of c.args._borders.now in
       let rs₀ = c.args.rows.now in
       let rs = c.loop-e.rows in
       let v = seen rs in
@@ -135,7 +135,7 @@ loop-e-preserved c = (
 
 pub returns : goal.returns
 returns c =
-    let bs = list_of c.args.-borders.now in
+    let bs = list_of c.args._borders.now in
     let rs₀ = c.args.rows.now in
     let rs = c.loop-e.rows in
     let v = seen rs in

@@ -12,4 +12,4 @@ invariant-loop-e l = Packed l.known (seen l.rows) × ((i : ℕ) → l.e ≡ suc 
     → Core max_edge slots l.rows
     × (lines_in (seen l.rows) ≡ lines_in (seen l.initial.rows))
     × Unlinked slots (seen l.rows)
-    × Planting max_edge (list_of l.-borders) (lines_in (seen l.initial.rows)) i (strips_of (seen l.rows)) (slot_count slots (seen l.rows)) (used slots (seen l.rows)))
+    × Planting max_edge (list_of l._borders) (lines_in (seen l.initial.rows)) i (strips_of (seen l.rows)) (slot_count slots (seen l.rows)) (used slots (seen l.rows)))

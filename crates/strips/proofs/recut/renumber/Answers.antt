@@ -59,8 +59,8 @@ loop-i-preserved c =
           let some : (((seen rs).row (suc i)).name ≡ pos 0 → ⊥) = λ z. w.if-rows-i-ne0.true (ap (of_z w16) (sym (ap (λ y. y.name) e) ∙ z)) in
           let here = named_home max_edge slots (seen rs) past.0.indexed past.0.sound.0 past.2 (suc i) (omega arith) (omega arith) some in
           let fx : SFits w32 r.x = search rules in
-          let is : w.strip-of-strip.result ≡ strip_of bs ((seen rs).row (suc i)).x = w.strip-of-strip.ensures ∙ ap (strip_of bs) (to_z-of_z w32 r.x fx ∙ sym (ap (λ y. y.x) e)) in
-          subst (Renumbered bs rs₀ (i + 1)) (sym w.rows-is) (moved bs rs₀ i rs w.set-strip.new.rows w.strip-of-strip.result below past here is w.set-strip.ensures.view w.set-strip.ensures.roomy)
+          let is : w.strip_of-strip.result ≡ strip_of bs ((seen rs).row (suc i)).x = w.strip_of-strip.ensures ∙ ap (strip_of bs) (to_z-of_z w32 r.x fx ∙ sym (ap (λ y. y.x) e)) in
+          subst (Renumbered bs rs₀ (i + 1)) (sym w.rows-is) (moved bs rs₀ i rs w.set_strip.new.rows w.strip_of-strip.result below past here is w.set_strip.ensures.view w.set_strip.ensures.roomy)
       | else-rows-i-ne0 w ↦
           let free : ((seen rs).row (suc i)).name ≡ pos 0 = ap (λ y. y.name) e ∙ same_name r.name (pos 0) fn (search rules) w.if-rows-i-ne0.false in
           subst (Renumbered bs rs₀ (i + 1)) (sym w.rows-is) (left bs rs₀ i rs past free)

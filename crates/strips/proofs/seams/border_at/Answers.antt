@@ -8,18 +8,18 @@ use Rattle.strips.proofs.Cutting.{strip_low, strip_high}
 use Rattle.strips.proofs.Bordering.{with_before, with_place, with_after}
 use Rattle.strips.proofs.seams.border_at.Goals as goal
 
-pub overflow-sub-place : goal.overflow-sub-place
-overflow-sub-place c =
+pub overflow_sub-place : goal.overflow_sub-place
+overflow_sub-place c =
     let b = c.args.borders.now in
     let fx : SFits w32 c.args.x = c.ranges.x in
-    let s : c.strip-of.result ≡ strip_of (list_of b) c.args.x = simp to_z-of_z at c.strip-of.ensures in
+    let s : c.strip_of.result ≡ strip_of (list_of b) c.args.x = simp to_z-of_z at c.strip_of.ensures in
     omega (arith, strip_low (list_of b) c.args.x)
 
 pub bounds-borders-i : goal.bounds-borders-i
 bounds-borders-i c =
     let b = c.args.borders.now in
     let fx : SFits w32 c.args.x = c.ranges.x in
-    let s : c.strip-of.result ≡ strip_of (list_of b) c.args.x = simp to_z-of_z at c.strip-of.ensures in
+    let s : c.strip_of.result ≡ strip_of (list_of b) c.args.x = simp to_z-of_z at c.strip_of.ensures in
     let long : length b.at ≡ 31 = search rules in
     omega (arith, strip_high (list_of b) c.args.x, length-take b.count b.at)
 
@@ -29,8 +29,8 @@ bounds-borders-i-2 c =
     let long : length b.at ≡ 31 = search rules in
     omega (arith, c.requires, length-take b.count b.at)
 
-pub offset-bounds-borders-i-2 : goal.offset-bounds-borders-i-2
-offset-bounds-borders-i-2 c =
+pub offset_bounds-borders-i-2 : goal.offset_bounds-borders-i-2
+offset_bounds-borders-i-2 c =
     let b = c.args.borders.now in
     let long : length b.at ≡ 31 = search rules in
     omega (arith, c.requires, length-take b.count b.at)
@@ -41,7 +41,7 @@ returns-then-i-place c =
     let x = c.args.x in
     let i = c.args.i in
     let fx : SFits w32 x = c.ranges.x in
-    let s : c.strip-of.result ≡ strip_of (list_of b) x = simp to_z-of_z at c.strip-of.ensures in
+    let s : c.strip_of.result ≡ strip_of (list_of b) x = simp to_z-of_z at c.strip_of.ensures in
     let long : length b.at ≡ 31 = search rules in
     let f : SFits w32 (get_or b.at i (pos 0)) = search rules in
     let here : i < b.count = omega (arith, c.if-i-place.true, strip_high (list_of b) x, length-take b.count b.at) in
@@ -53,7 +53,7 @@ returns-then-i-place-2 c =
     let b = c.args.borders.now in
     let x = c.args.x in
     let fx : SFits w32 x = c.ranges.x in
-    let s : c.strip-of.result ≡ strip_of (list_of b) x = simp to_z-of_z at c.strip-of.ensures in
+    let s : c.strip_of.result ≡ strip_of (list_of b) x = simp to_z-of_z at c.strip_of.ensures in
     let low = strip_low (list_of b) x in
     let at : suc c.args.i ≡ strip_of (list_of b) x = omega (arith, c.if-i-place-2.true) in
     simp to_z-of_z (sym (with_place x (list_of b) c.args.i at))
@@ -64,7 +64,7 @@ returns c =
     let x = c.args.x in
     let i = c.args.i in
     let fx : SFits w32 x = c.ranges.x in
-    let s : c.strip-of.result ≡ strip_of (list_of b) x = simp to_z-of_z at c.strip-of.ensures in
+    let s : c.strip_of.result ≡ strip_of (list_of b) x = simp to_z-of_z at c.strip_of.ensures in
     let long : length b.at ≡ 31 = search rules in
     let f : SFits w32 (get_or b.at (i - 1) (pos 0)) = search rules in
     let low = strip_low (list_of b) x in

@@ -16,11 +16,11 @@ loop-e-init g c i z =
     let same : 0 ≡ i = omega arith in
     subst (λ k. CountedTo bs lines k 0) same (sym (taken_none bs lines), omega arith)
 
-pub overflow-add-count : goal.overflow-add-count
-overflow-add-count g c =
+pub overflow_add-count : goal.overflow_add-count
+overflow_add-count g c =
     let low = c.loop-e.auto.e in
     let past = c.loop-e.invariant (c.loop-e.e - 1) (omega arith) in
-    let few = c.slots-of-count.ensures.few in
+    let few = c.slots_of-count.ensures.few in
     omega (arith, past.1, few)
 
 -- one edge more is counted
@@ -44,7 +44,7 @@ loop-e-preserved g c i z =
     let e = c.loop-e.e in
     let low = c.loop-e.auto.e in
     let e-is : suc (e - 1) ≡ e = omega arith in
-    counted bs lines (e - 1) i e c.loop-e.count c.slots-of-count.result e-is z (c.loop-e.invariant (e - 1) (sym e-is)) c.slots-of-count.ensures.taken c.slots-of-count.ensures.few
+    counted bs lines (e - 1) i e c.loop-e.count c.slots_of-count.result e-is z (c.loop-e.invariant (e - 1) (sym e-is)) c.slots_of-count.ensures.taken c.slots_of-count.ensures.few
 
 pub returns : goal.returns
 returns g c =

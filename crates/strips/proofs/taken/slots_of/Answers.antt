@@ -16,10 +16,10 @@ returns g c =
     let bs = list_of c.args.borders.now in
     let lines = lines_of g.C.Turning.turn g.C.Chart.points c.args.chart.now in
     let e = c.args.edge in
-    let first : c.strip-at-first.result ≡ home_strip bs lines (pos e) = c.strip-at-first.ensures ∙ ap (λ o. strip_of bs (x_of o)) c.west-end.ensures in
-    let last : c.strip-at-last.result ≡ home_strip bs lines (neg_ℤ (pos e)) = c.strip-at-last.ensures ∙ ap (λ o. strip_of bs (x_of o)) c.east-end.ensures in
-    let held : lines.turn.held (pos e) ≡ true = sym c.if-not-holds-edge.ensures in
+    let first : c.strip_at-first.result ≡ home_strip bs lines (pos e) = c.strip_at-first.ensures ∙ ap (λ o. strip_of bs (x_of o)) c.west_end.ensures in
+    let last : c.strip_at-last.result ≡ home_strip bs lines (neg_ℤ (pos e)) = c.strip_at-last.ensures ∙ ap (λ o. strip_of bs (x_of o)) c.east_end.ensures in
+    let held : lines.turn.held (pos e) ≡ true = sym c.if-not-holds_edge.ensures in
     record {
-      taken = one_more c.borders-between.result _ (c.borders-between.ensures ∙ ap₂ apart first last) ∙ sym (cond-true (lines.turn.held (pos e)) _ 0 held);
-      few = few_enough c.borders-between.result c.borders-between.type-inv;
+      taken = one_more c.borders_between.result _ (c.borders_between.ensures ∙ ap₂ apart first last) ∙ sym (cond-true (lines.turn.held (pos e)) _ 0 held);
+      few = few_enough c.borders_between.result c.borders_between.type_inv;
     }

@@ -9,24 +9,24 @@ use Rattle.strips.specs.Sheets.{Kept}
 use Rattle.strips.proofs.Standing.{blank_stripped}
 use Rattle.strips.proofs.sheet.Sheet.clear.Goals as goal
 
-pub invariant-of-self : goal.invariant-of-self
-invariant-of-self c =
+pub invariant_of-self : goal.invariant_of-self
+invariant_of-self c =
     let bs = list_of c.none-self.result in
-    let rs = c.free-rows.new.rows.at.now in
-    let same = c.free-rows.ensures.length in
-    let kept : Kept bs rs = λ long. blank_stripped bs rs (c.free-rows.ensures.freed (omega arith)) long in
+    let rs = c.free_rows.new.rows.at.now in
+    let same = c.free_rows.ensures.length in
+    let kept : Kept bs rs = λ long. blank_stripped bs rs (c.free_rows.ensures.freed (omega arith)) long in
     record { ok = ∣ kept ∣₁; rises = ap rising c.none-self.ensures }
 
 pub returns : goal.returns
 returns c =
-    let rs = c.free-rows.new.rows.at.now in
-    let same = c.free-rows.ensures.length in
+    let rs = c.free_rows.new.rows.at.now in
+    let same = c.free_rows.ensures.length in
     record {
       empty = ⊎_elim
-          (λ e. let long : slots ≤ length rs = leb-true slots (length rs) e in blank_lines rs (c.free-rows.ensures.freed (omega arith)) long)
+          (λ e. let long : slots ≤ length rs = leb-true slots (length rs) e in blank_lines rs (c.free_rows.ensures.freed (omega arith)) long)
           (λ e. short_lines max_edge slots rs e)
           (cases_Bool (leb slots (length rs)));
       uncut = c.none-self.ensures;
       length = same;
-      left = c.free-rows.ensures.left;
+      left = c.free_rows.ensures.left;
     }

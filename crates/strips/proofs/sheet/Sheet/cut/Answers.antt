@@ -14,38 +14,38 @@ use Rattle.strips.proofs.Stitching.{rise_with}
 use Rattle.strips.proofs.Sewing.{cut_full, cut_done}
 use Rattle.strips.proofs.sheet.Sheet.cut.Goals as goal
 
-pub lay-out-requires : goal.lay-out-requires
-lay-out-requires c =
+pub lay_out-requires : goal.lay_out-requires
+lay_out-requires c =
     let s = c.args.self.now in
     let bs = list_of s.borders in
     let rs = s.rows.at.now in
     let most = room_most rs in
-    record { core = λ long. (kept_out bs rs s.ok long).core; room = omega (arith, c.if-slots-needed-slot-count.false, c.slots-needed.ensures, c.slot-count.ensures) }
+    record { core = λ long. (kept_out bs rs s.ok long).core; room = omega (arith, c.if-slots_needed-slot_count.false, c.slots_needed.ensures, c.slot_count.ensures) }
 
-pub invariant-of-self : goal.invariant-of-self
-invariant-of-self c =
+pub invariant_of-self : goal.invariant_of-self
+invariant_of-self c =
     let s = c.args.self.now in
     let bs = list_of s.borders in
     let x = c.args.x in
     let fx : SFits w32 x = c.ranges.x in
-    let inside : within x ≡ true = sym (simp to_z-of_z at c.if-not-is-within.ensures) in
-    let new : is_border x bs ≡ false = sym (simp to_z-of_z at c.if-has-border.ensures) in
-    let put : list_of c.put-in-borders.result ≡ with_border x bs = simp to_z-of_z at c.put-in-borders.ensures in
-    record { ok = ∣ c.lay-out.ensures.kept ∣₁; rises = ap rising put ∙ rise_with x bs s.rises inside new }
+    let inside : within x ≡ true = sym (simp to_z-of_z at c.if-not-is_within.ensures) in
+    let new : is_border x bs ≡ false = sym (simp to_z-of_z at c.if-has_border.ensures) in
+    let put : list_of c.put_in-borders.result ≡ with_border x bs = simp to_z-of_z at c.put_in-borders.ensures in
+    record { ok = ∣ c.lay_out.ensures.kept ∣₁; rises = ap rising put ∙ rise_with x bs s.rises inside new }
 
-pub returns-then-slots-needed-slot-count : goal.returns-then-slots-needed-slot-count
-returns-then-slots-needed-slot-count c =
+pub returns-then-slots_needed-slot_count : goal.returns-then-slots_needed-slot_count
+returns-then-slots_needed-slot_count c =
     let s = c.args.self.now in
     let bs = list_of s.borders in
     let rs = s.rows.at.now in
     let x = c.args.x in
     let fx : SFits w32 x = c.ranges.x in
-    let inside : within x ≡ true = sym (simp to_z-of_z at c.if-not-is-within.ensures) in
-    let new : is_border x bs ≡ false = sym (simp to_z-of_z at c.if-has-border.ensures) in
-    let few : strip_count bs < max_strips = omega (arith, c.if-strip-count-ge-MAX-STRIPS.false, c.strip-count.ensures.count) in
-    let put : list_of c.put-in-borders.result ≡ with_border x bs = simp to_z-of_z at c.put-in-borders.ensures in
-    let needed : c.slots-needed.result ≡ slots_taken (with_border x bs) (lines_in (seen rs)) max_edge = c.slots-needed.ensures ∙ ap (λ cs. slots_taken cs (lines_in (seen rs)) max_edge) put in
-    let over : room_of rs < slots_taken (with_border x bs) (lines_in (seen rs)) max_edge = omega (arith, c.if-slots-needed-slot-count.true, needed, c.slot-count.ensures) in
+    let inside : within x ≡ true = sym (simp to_z-of_z at c.if-not-is_within.ensures) in
+    let new : is_border x bs ≡ false = sym (simp to_z-of_z at c.if-has_border.ensures) in
+    let few : strip_count bs < max_strips = omega (arith, c.if-strip_count-ge-MAX_STRIPS.false, c.strip_count.ensures.count) in
+    let put : list_of c.put_in-borders.result ≡ with_border x bs = simp to_z-of_z at c.put_in-borders.ensures in
+    let needed : c.slots_needed.result ≡ slots_taken (with_border x bs) (lines_in (seen rs)) max_edge = c.slots_needed.ensures ∙ ap (λ cs. slots_taken cs (lines_in (seen rs)) max_edge) put in
+    let over : room_of rs < slots_taken (with_border x bs) (lines_in (seen rs)) max_edge = omega (arith, c.if-slots_needed-slot_count.true, needed, c.slot_count.ensures) in
     record { done = record { told = cut_full bs rs x inside new few (kept_sound bs rs s.ok).1 over; changed = refl }; flat = λ f. f }
 
 pub returns : goal.returns
@@ -55,14 +55,14 @@ returns c =
     let rs = s.rows.at.now in
     let x = c.args.x in
     let fx : SFits w32 x = c.ranges.x in
-    let inside : within x ≡ true = sym (simp to_z-of_z at c.if-not-is-within.ensures) in
-    let new : is_border x bs ≡ false = sym (simp to_z-of_z at c.if-has-border.ensures) in
-    let few : strip_count bs < max_strips = omega (arith, c.if-strip-count-ge-MAX-STRIPS.false, c.strip-count.ensures.count) in
-    let put : list_of c.put-in-borders.result ≡ with_border x bs = simp to_z-of_z at c.put-in-borders.ensures in
-    let needed : c.slots-needed.result ≡ slots_taken (with_border x bs) (lines_in (seen rs)) max_edge = c.slots-needed.ensures ∙ ap (λ cs. slots_taken cs (lines_in (seen rs)) max_edge) put in
-    let fits : slots_taken (with_border x bs) (lines_in (seen rs)) max_edge ≤ room_of rs = omega (arith, c.if-slots-needed-slot-count.false, needed, c.slot-count.ensures) in
-    let e = c.lay-out.ensures in
+    let inside : within x ≡ true = sym (simp to_z-of_z at c.if-not-is_within.ensures) in
+    let new : is_border x bs ≡ false = sym (simp to_z-of_z at c.if-has_border.ensures) in
+    let few : strip_count bs < max_strips = omega (arith, c.if-strip_count-ge-MAX_STRIPS.false, c.strip_count.ensures.count) in
+    let put : list_of c.put_in-borders.result ≡ with_border x bs = simp to_z-of_z at c.put_in-borders.ensures in
+    let needed : c.slots_needed.result ≡ slots_taken (with_border x bs) (lines_in (seen rs)) max_edge = c.slots_needed.ensures ∙ ap (λ cs. slots_taken cs (lines_in (seen rs)) max_edge) put in
+    let fits : slots_taken (with_border x bs) (lines_in (seen rs)) max_edge ≤ room_of rs = omega (arith, c.if-slots_needed-slot_count.false, needed, c.slot_count.ensures) in
+    let e = c.lay_out.ensures in
     record {
-      done = cut_done bs rs x inside new few (kept_sound bs rs s.ok).1 (list_of c.put-in-borders.result) c.lay-out.new.rows.at.now put fits e.lines e.slots;
+      done = cut_done bs rs x inside new few (kept_sound bs rs s.ok).1 (list_of c.put_in-borders.result) c.lay_out.new.rows.at.now put fits e.lines e.slots;
       flat = λ f. subst (λ l. Flat max_edge l.turn) (sym e.lines) f;
     }

@@ -9,23 +9,23 @@ use Rattle.strips.proofs.Standing.{kept_out, kept_lent, long_fits}
 use Rattle.strips.proofs.sheet.Sheet.has_room.Goals as goal
 use Rattle.strips.proofs.sheet.Sheet.has_room.Goals.{then-a-b, else-a-b}
 
-pub count-used-requires : goal.count-used-requires
-count-used-requires c = kept_lent (list_of c.args.self.now.borders) _ c.args.self.now.ok c.if-self-lt-SLOTS.false
+pub count_used-requires : goal.count_used-requires
+count_used-requires c = kept_lent (list_of c.args.self.now.borders) _ c.args.self.now.ok c.if-self-lt-SLOTS.false
 
 -- how many borders lie between two strips
-crossing : (c : goal.After-row-known·1) → c.if-a-b.crossed ≡ apart c.strip-of-a.result c.strip-of-b.result
+crossing : (c : goal.After-row_known-1) → c.if-a-b.crossed ≡ apart c.strip_of-a.result c.strip_of-b.result
 crossing c = elim c.if-a-b.branch [
   | then-a-b w ↦ let l = w.if-a-b.true in let e = w.crossed-is in omega (arith, l, e)
   | else-a-b w ↦ let l = w.if-a-b.false in let e = w.crossed-is in omega (arith, l, e)
 ]
 
-pub overflow-add-result-2 : goal.overflow-add-result-2
-overflow-add-result-2 c =
+pub overflow_add-result-2 : goal.overflow_add-result-2
+overflow_add-result-2 c =
     let k = crossing c in
     let u = used_within slots (seen c.args.self.now.rows.at.now) in
-    let e = c.count-used.ensures in
-    let a = c.strip-of-a.type-inv in
-    let b = c.strip-of-b.type-inv in
+    let e = c.count_used.ensures in
+    let a = c.strip_of-a.type_inv in
+    let b = c.strip_of-b.type_inv in
     omega (arith, k, u, e, a, b)
 
 pub returns : goal.returns
@@ -36,8 +36,8 @@ returns c =
     let q = c.args.q in
     let fp : SFits w32 p.x = search rules in
     let fq : SFits w32 q.x = search rules in
-    let west : c.strip-of-a.result ≡ strip_of bs p.x = c.strip-of-a.ensures ∙ ap (strip_of bs) (to_z-of_z w32 _ fp) in
-    let east : c.strip-of-b.result ≡ strip_of bs q.x = c.strip-of-b.ensures ∙ ap (strip_of bs) (to_z-of_z w32 _ fq) in
+    let west : c.strip_of-a.result ≡ strip_of bs p.x = c.strip_of-a.ensures ∙ ap (strip_of bs) (to_z-of_z w32 _ fp) in
+    let east : c.strip_of-b.result ≡ strip_of bs q.x = c.strip_of-b.ensures ∙ ap (strip_of bs) (to_z-of_z w32 _ fq) in
     let k : c.if-a-b.crossed + 1 ≡ suc (apart (strip_of bs p.x) (strip_of bs q.x)) = add-one c.if-a-b.crossed ∙ ap suc (crossing c ∙ ap₂ apart west east) in
-    ap₂ (λ u m. leb (u + 2 * m) slots) c.count-used.ensures k
+    ap₂ (λ u m. leb (u + 2 * m) slots) c.count_used.ensures k
     ∙ sym (long_fits bs rs (kept_out bs rs c.args.self.now.ok) p q c.if-self-lt-SLOTS.false)

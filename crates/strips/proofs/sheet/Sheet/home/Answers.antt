@@ -11,8 +11,8 @@ use Rattle.strips.specs.Sheets.{lawful_of}
 use Rattle.strips.proofs.Homes.{home_by, somewhere}
 use Rattle.strips.proofs.sheet.Sheet.home.Goals as goal
 
-pub overflow-sub-opposite : goal.overflow-sub-opposite
-overflow-sub-opposite c =
+pub overflow_sub-opposite : goal.overflow_sub-opposite
+overflow_sub-opposite c =
     let s = c.args.self.now in
     let rs = s.rows.at.now in
     let law = lawful_of (list_of s.borders) rs s.ok in
@@ -20,8 +20,8 @@ overflow-sub-opposite c =
     let held : (turn_of (seen rs)).held c.args.h ≡ true = ap (turn_of (seen rs)).held (sym bits) ∙ sym c.if-not-holds.ensures in
     omega (arith, ints, law.low c.args.h held, law.high c.args.h held)
 
-pub returns-in-default-point : goal.returns-in-default-point
-returns-in-default-point c =
+pub returns-in_default-point : goal.returns-in_default-point
+returns-in_default-point c =
     let s = c.args.self.now in
     let rs = s.rows.at.now in
     let h = c.args.h in
@@ -29,7 +29,7 @@ returns-in-default-point c =
     let bits = to_z-of_z w16 h c.ranges.h in
     let held : (turn_of (seen rs)).held h ≡ true = ap (turn_of (seen rs)).held (sym bits) ∙ sym c.if-not-holds.ensures in
     let back = minus_back h c.ranges.h (omega (arith, ints, law.low h held, law.high h held)) in
-    absurd (somewhere (seen rs) (neg_ℤ h) (law.closed h held) (ap (points_of (seen rs)) (sym back) ∙ sym c.point-2.ensures ∙ c.in-default-point.is))
+    absurd (somewhere (seen rs) (neg_ℤ h) (law.closed h held) (ap (points_of (seen rs)) (sym back) ∙ sym c.point-2.ensures ∙ c.in_default-point.is))
 
 pub returns : goal.returns
 returns c =
@@ -46,7 +46,7 @@ returns c =
     let there : points_of (seen rs) (neg_ℤ h) ≡ Some q = ap (points_of (seen rs)) (sym back) ∙ sym c.point-2.ensures ∙ c.in-Some-point.is in
     let px : SFits w32 p.x = search rules in
     let qx : SFits w32 q.x = search rules in
-    let a = c.strip-of-here.ensures ∙ ap (strip_of (list_of s.borders)) (to_z-of_z w32 p.x px) in
-    let b = c.strip-of-there.ensures ∙ ap (strip_of (list_of s.borders)) (to_z-of_z w32 q.x qx) in
-    c.home-between.ensures
+    let a = c.strip_of-here.ensures ∙ ap (strip_of (list_of s.borders)) (to_z-of_z w32 p.x px) in
+    let b = c.strip_of-there.ensures ∙ ap (strip_of (list_of s.borders)) (to_z-of_z w32 q.x qx) in
+    c.home_between.ensures
     ∙ home_by max_edge (list_of s.borders) (lines_in (seen rs)) law c.args.strip p q h held here there _ _ a b _ (ap (lt_z (pos 0)) bits)

@@ -13,28 +13,28 @@ use Rattle.strips.proofs.Stitching.{rise_without, taken_without}
 use Rattle.strips.proofs.Sewing.{knit_done}
 use Rattle.strips.proofs.sheet.Sheet.knit.Goals as goal
 
-pub lay-out-requires : goal.lay-out-requires
-lay-out-requires c =
+pub lay_out-requires : goal.lay_out-requires
+lay_out-requires c =
     let s = c.args.self.now in
     let bs = list_of s.borders in
     let rs = s.rows.at.now in
     let x = c.args.x in
     let fx : SFits w32 x = c.ranges.x in
-    let here : is_border x bs ≡ true = sym (simp to_z-of_z at c.if-not-has-border.ensures) in
-    let out : list_of c.take-out-borders.result ≡ without_border x bs = simp to_z-of_z at c.take-out-borders.ensures in
+    let here : is_border x bs ≡ true = sym (simp to_z-of_z at c.if-not-has_border.ensures) in
+    let out : list_of c.take_out-borders.result ≡ without_border x bs = simp to_z-of_z at c.take_out-borders.ensures in
     let less = taken_without max_edge (lines_in (seen rs)) (kept_sound bs rs s.ok).1 x bs s.rises here max_edge in
     let most = taken_most bs rs s.ok in
     let same = ap (λ cs. slots_taken cs (lines_in (seen rs)) max_edge) out in
     record { core = λ long. (kept_out bs rs s.ok long).core; room = omega (arith, less, most, same) }
 
-pub invariant-of-self : goal.invariant-of-self
-invariant-of-self c =
+pub invariant_of-self : goal.invariant_of-self
+invariant_of-self c =
     let s = c.args.self.now in
     let bs = list_of s.borders in
     let x = c.args.x in
     let fx : SFits w32 x = c.ranges.x in
-    let out : list_of c.take-out-borders.result ≡ without_border x bs = simp to_z-of_z at c.take-out-borders.ensures in
-    record { ok = ∣ c.lay-out.ensures.kept ∣₁; rises = ap rising out ∙ rise_without x bs s.rises }
+    let out : list_of c.take_out-borders.result ≡ without_border x bs = simp to_z-of_z at c.take_out-borders.ensures in
+    record { ok = ∣ c.lay_out.ensures.kept ∣₁; rises = ap rising out ∙ rise_without x bs s.rises }
 
 pub returns : goal.returns
 returns c =
@@ -43,11 +43,11 @@ returns c =
     let rs = s.rows.at.now in
     let x = c.args.x in
     let fx : SFits w32 x = c.ranges.x in
-    let inside : within x ≡ true = sym (simp to_z-of_z at c.if-not-is-within.ensures) in
-    let here : is_border x bs ≡ true = sym (simp to_z-of_z at c.if-not-has-border.ensures) in
-    let out : list_of c.take-out-borders.result ≡ without_border x bs = simp to_z-of_z at c.take-out-borders.ensures in
-    let e = c.lay-out.ensures in
+    let inside : within x ≡ true = sym (simp to_z-of_z at c.if-not-is_within.ensures) in
+    let here : is_border x bs ≡ true = sym (simp to_z-of_z at c.if-not-has_border.ensures) in
+    let out : list_of c.take_out-borders.result ≡ without_border x bs = simp to_z-of_z at c.take_out-borders.ensures in
+    let e = c.lay_out.ensures in
     record {
-      done = knit_done bs rs x inside here (list_of c.take-out-borders.result) c.lay-out.new.rows.at.now out e.lines e.slots;
+      done = knit_done bs rs x inside here (list_of c.take_out-borders.result) c.lay_out.new.rows.at.now out e.lines e.slots;
       flat = λ f. subst (λ l. Flat max_edge l.turn) (sym e.lines) f;
     }

@@ -14,8 +14,8 @@ returns c =
     let rs = s.rows.at.now in
     let ts = c.args.table.now.rows.at.now in
     let edges = edge_count max_edge (turn_of (seen rs)) in
-    let told = c.take-over.ensures.told in
+    let told = c.take_over.ensures.told in
     record {
-      merged = λ long. c.take-over.ensures.taken (told ∙ ap (leb (2 * edges)) (long_room ts long) ∙ le-leb _ _ (sheet_edges (list_of s.borders) rs s.ok));
-      left = λ short. short_merged rs ts _ c.take-over.result (kept_sound (list_of s.borders) rs s.ok) short told c.take-over.ensures.taken c.take-over.ensures.left;
+      merged = λ long. c.take_over.ensures.taken (told ∙ ap (leb (2 * edges)) (long_room ts long) ∙ le-leb _ _ (sheet_edges (list_of s.borders) rs s.ok));
+      left = λ short. short_merged rs ts _ c.take_over.result (kept_sound (list_of s.borders) rs s.ok) short told c.take_over.ensures.taken c.take_over.ensures.left;
     }

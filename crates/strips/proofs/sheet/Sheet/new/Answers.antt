@@ -12,16 +12,16 @@ use Rattle.strips.proofs.Standing.{blank_stripped}
 use Rattle.strips.proofs.sheet.Sheet.new.Goals as goal
 use Rattle.strips.proofs.sheet.Sheet.new.Goals.{then-memory-ge-SLOTS, else-memory-ge-SLOTS}
 
-pub invariant-of-result : goal.invariant-of-result
-invariant-of-result c =
+pub invariant_of-result : goal.invariant_of-result
+invariant_of-result c =
     let rs = c.if-memory-ge-SLOTS.memory in
     let bs = list_of c.none.result in
     let kept : Kept bs rs = elim c.if-memory-ge-SLOTS.branch [
       | then-memory-ge-SLOTS w ↦ λ long.
-          let freed = w.free-all.new.rows in
+          let freed = w.free_all.new.rows in
           let is : freed ≡ rs = sym w.memory-is in
           let l : slots ≤ length freed = subst (λ x. slots ≤ length x) (sym is) long in
-          subst (Stripped max_edge slots bs) is (blank_stripped bs freed w.free-all.ensures l)
+          subst (Stripped max_edge slots bs) is (blank_stripped bs freed w.free_all.ensures l)
       | else-memory-ge-SLOTS w ↦ λ long. absurd (let short = w.if-memory-ge-SLOTS.false in let same = ap length w.memory-is in omega arith)
     ] in
     record { ok = ∣ kept ∣₁; rises = ap rising c.none.ensures }
@@ -31,12 +31,12 @@ returns c =
     let rs = c.if-memory-ge-SLOTS.memory in
     elim c.if-memory-ge-SLOTS.branch [
       | then-memory-ge-SLOTS w ↦
-          let freed = w.free-all.new.rows in
+          let freed = w.free_all.new.rows in
           let long = w.if-memory-ge-SLOTS.true in
-          let same : length freed ≡ length c.args.memory.now = w.free-all.auto.rows in
+          let same : length freed ≡ length c.args.memory.now = w.free_all.auto.rows in
           let l : slots ≤ length freed = omega arith in
           record {
-            empty = ap (λ x. lines_in (seen x)) w.memory-is ∙ blank_lines freed w.free-all.ensures l;
+            empty = ap (λ x. lines_in (seen x)) w.memory-is ∙ blank_lines freed w.free_all.ensures l;
             uncut = c.none.ensures;
             length = ap length w.memory-is ∙ same;
             left = λ short. absurd (omega arith);

@@ -16,39 +16,39 @@ told : (bs : List ℤ) (rs : List Halfedge) (e f : ℕ) (p : Point) (fits r : Bo
     → r ≡ may_cleave max_edge (lines_in (seen rs)) (fits_of bs rs) e f p
 told bs rs e f p fits r asked room = asked ∙ ap (λ b. may_cleave max_edge (lines_in (seen rs)) (λ _ _. b) e f p) room
 
-pub returns-in-default : goal.returns-in-default
-returns-in-default c =
+pub returns-in_default : goal.returns-in_default
+returns-in_default c =
     let a = c.args in
     let s = a.self.now in
     let bs = list_of s.borders in
     let rs = s.rows.at.now in
-    let may = sym (told bs rs a.edge a.east a.at c.has-room-fits.result true c.if-not-may-cleave.ensures c.has-room-fits.ensures) in
-    absurd (ends_somewhere bs rs s.ok a.edge a.east a.at may (sym c.east-end.ensures ∙ c.in-default.is))
+    let may = sym (told bs rs a.edge a.east a.at c.has_room-fits.result true c.if-not-may_cleave.ensures c.has_room-fits.ensures) in
+    absurd (ends_somewhere bs rs s.ok a.edge a.east a.at may (sym c.east_end.ensures ∙ c.in_default.is))
 
-pub cleave-through-requires : goal.cleave-through-requires
-cleave-through-requires c =
+pub cleave_through-requires : goal.cleave_through-requires
+cleave_through-requires c =
     let a = c.args in
     let s = a.self.now in
     let bs = list_of s.borders in
     let rs = s.rows.at.now in
-    let may = sym (told bs rs a.edge a.east a.at c.has-room-fits.result true c.if-not-may-cleave.ensures c.has-room-fits.ensures) in
-    let h = cleavable bs rs s.ok a.edge a.east a.at c.in-Some.to may (sym c.east-end.ensures ∙ c.in-Some.is) in
+    let may = sym (told bs rs a.edge a.east a.at c.has_room-fits.result true c.if-not-may_cleave.ensures c.has_room-fits.ensures) in
+    let h = cleavable bs rs s.ok a.edge a.east a.at c.in-Some.to may (sym c.east_end.ensures ∙ c.in-Some.is) in
     record { stripped = h.stripped; cuts = h.cuts; room = h.room }
 
-pub invariant-of-self : goal.invariant-of-self
-invariant-of-self c = record { ok = ∣ (λ _. c.cleave-through.ensures.stripped) ∣₁; rises = c.args.self.now.rises }
+pub invariant_of-self : goal.invariant_of-self
+invariant_of-self c = record { ok = ∣ (λ _. c.cleave_through.ensures.stripped) ∣₁; rises = c.args.self.now.rises }
 
 pub returns : goal.returns
 returns c = record {
-  told = told (list_of c.args.self.now.borders) c.args.self.now.rows.at.now c.args.edge c.args.east c.args.at c.has-room-fits.result true c.if-not-may-cleave.ensures c.has-room-fits.ensures;
-  changed = λ _. c.cleave-through.ensures.lines;
+  told = told (list_of c.args.self.now.borders) c.args.self.now.rows.at.now c.args.edge c.args.east c.args.at c.has_room-fits.result true c.if-not-may_cleave.ensures c.has_room-fits.ensures;
+  changed = λ _. c.cleave_through.ensures.lines;
   framed = λ _.
       let a = c.args in
       let s = a.self.now in
       let bs = list_of s.borders in
       let rs = s.rows.at.now in
-      let may = sym (told bs rs a.edge a.east a.at c.has-room-fits.result true c.if-not-may-cleave.ensures c.has-room-fits.ensures) in
-      let h = cleavable bs rs s.ok a.edge a.east a.at c.in-Some.to may (sym c.east-end.ensures ∙ c.in-Some.is) in
-      same_frame bs rs _ h.stripped.core.roomy.long c.cleave-through.ensures.stripped;
+      let may = sym (told bs rs a.edge a.east a.at c.has_room-fits.result true c.if-not-may_cleave.ensures c.has_room-fits.ensures) in
+      let h = cleavable bs rs s.ok a.edge a.east a.at c.in-Some.to may (sym c.east_end.ensures ∙ c.in-Some.is) in
+      same_frame bs rs _ h.stripped.core.roomy.long c.cleave_through.ensures.stripped;
   kept = λ f. absurd (true≢false f);
 }

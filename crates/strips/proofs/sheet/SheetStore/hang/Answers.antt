@@ -16,32 +16,32 @@ told : (bs : List ℤ) (rs : List Halfedge) (e : ℕ) (a b : End) (fits r : Bool
     → r ≡ may_hang max_edge (lines_in (seen rs)) (fits_of bs rs) e a b
 told bs rs e a b fits r asked room = asked ∙ ap (λ f. may_hang max_edge (lines_in (seen rs)) (λ _ _. f) e a b) room
 
-pub hang-through-requires : goal.hang-through-requires
-hang-through-requires c =
+pub hang_through-requires : goal.hang_through-requires
+hang_through-requires c =
     let a = c.args in
     let s = a.self.now in
     let bs = list_of s.borders in
     let rs = s.rows.at.now in
-    let w = c.west-to-east in
-    let may = sym (told bs rs a.edge a.a a.b c.has-room-fits.result true c.if-not-may-hang.ensures c.has-room-fits.ensures) in
+    let w = c.west_to_east in
+    let may = sym (told bs rs a.edge a.a a.b c.has_room-fits.result true c.if-not-may_hang.ensures c.has_room-fits.ensures) in
     let h = hangable bs rs s.ok a.edge a.a a.b w.result may w.ensures.west w.ensures.east in
     record { stripped = h.stripped; ends = h.ends; room = h.room }
 
-pub invariant-of-self : goal.invariant-of-self
-invariant-of-self c = record { ok = ∣ (λ _. c.hang-through.ensures.stripped) ∣₁; rises = c.args.self.now.rises }
+pub invariant_of-self : goal.invariant_of-self
+invariant_of-self c = record { ok = ∣ (λ _. c.hang_through.ensures.stripped) ∣₁; rises = c.args.self.now.rises }
 
 pub returns : goal.returns
 returns c = record {
-  told = told (list_of c.args.self.now.borders) c.args.self.now.rows.at.now c.args.edge c.args.a c.args.b c.has-room-fits.result true c.if-not-may-hang.ensures c.has-room-fits.ensures;
-  changed = λ _. c.hang-through.ensures.lines ∙ ap₂ (λ x y. hung_between c.args.edge x y (lines_in (seen c.args.self.now.rows.at.now))) c.west-to-east.ensures.west c.west-to-east.ensures.east;
+  told = told (list_of c.args.self.now.borders) c.args.self.now.rows.at.now c.args.edge c.args.a c.args.b c.has_room-fits.result true c.if-not-may_hang.ensures c.has_room-fits.ensures;
+  changed = λ _. c.hang_through.ensures.lines ∙ ap₂ (λ x y. hung_between c.args.edge x y (lines_in (seen c.args.self.now.rows.at.now))) c.west_to_east.ensures.west c.west_to_east.ensures.east;
   framed = λ _.
       let a = c.args in
       let s = a.self.now in
       let bs = list_of s.borders in
       let rs = s.rows.at.now in
-      let w = c.west-to-east in
-      let may = sym (told bs rs a.edge a.a a.b c.has-room-fits.result true c.if-not-may-hang.ensures c.has-room-fits.ensures) in
+      let w = c.west_to_east in
+      let may = sym (told bs rs a.edge a.a a.b c.has_room-fits.result true c.if-not-may_hang.ensures c.has_room-fits.ensures) in
       let h = hangable bs rs s.ok a.edge a.a a.b w.result may w.ensures.west w.ensures.east in
-      same_frame bs rs _ h.stripped.core.roomy.long c.hang-through.ensures.stripped;
+      same_frame bs rs _ h.stripped.core.roomy.long c.hang_through.ensures.stripped;
   kept = λ f. absurd (true≢false f);
 }

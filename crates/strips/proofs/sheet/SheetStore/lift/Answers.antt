@@ -3,14 +3,14 @@ use Rattle.strips.specs.Cuts.{list_of}
 use Rattle.strips.proofs.Standing.{kept_out, held_long, same_frame}
 use Rattle.strips.proofs.sheet.SheetStore.lift.Goals as goal
 
-pub lift-through-requires : goal.lift-through-requires
-lift-through-requires c =
+pub lift_through-requires : goal.lift_through-requires
+lift_through-requires c =
     let s = c.args.self.now in
-    let here = sym c.if-not-holds-edge.ensures in
+    let here = sym c.if-not-holds_edge.ensures in
     record { stripped = kept_out (list_of s.borders) s.rows.at.now s.ok (held_long s.rows.at.now _ here); here = here }
 
-pub invariant-of-self : goal.invariant-of-self
-invariant-of-self c = record { ok = ∣ (λ _. c.lift-through.ensures.stripped) ∣₁; rises = c.args.self.now.rises }
+pub invariant_of-self : goal.invariant_of-self
+invariant_of-self c = record { ok = ∣ (λ _. c.lift_through.ensures.stripped) ∣₁; rises = c.args.self.now.rises }
 
 pub returns : goal.returns
 returns c = record {
@@ -19,7 +19,7 @@ returns c = record {
   framed = λ _.
       let s = c.args.self.now in
       let rs = s.rows.at.now in
-      let here = sym c.if-not-holds-edge.ensures in
-      same_frame (list_of s.borders) rs _ (held_long rs _ here) c.lift-through.ensures.stripped;
+      let here = sym c.if-not-holds_edge.ensures in
+      same_frame (list_of s.borders) rs _ (held_long rs _ here) c.lift_through.ensures.stripped;
   kept = search rules;
 }

@@ -29,8 +29,8 @@ returns g c =
           (rw w.store-is e.flat) tt _ c.told.ensures _ (ap edit_of (w.call-is ∙ w.in-Sprout.is)))
       | in-Join w ↦
           let e = w.join-r.ensures in
-          let ms = w.as-mut-slice.ensures in
-          let ls = w.as-mut-slice-in-Join.ensures in
+          let ms = w.as_mut_slice.ensures in
+          let ls = w.as_mut_slice-in-Join.ensures in
           let fm = with_items_is w.in-Join.marks w.join-r.new.marks (w.join-r.auto.marks ∙ ms.len) in
           let fl = with_items_is w.in-Join.line w.join-r.new.line (w.join-r.auto.line ∙ ls.len) in
           let fc : SFits w16 w.in-Join.at.c = search rules in

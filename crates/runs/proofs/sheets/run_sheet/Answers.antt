@@ -12,7 +12,7 @@ loop-item-init c = (refl, over)
 pub loop-item-preserved : goal.loop-item-preserved
 loop-item-preserved c =
     chain_more SheetStep _ c.args.items.now c.loop-item.items _ c.loop-item.item-index c.item-item.result _ _
-    c.loop-item.auto.items c.loop-item-test.true c.loop-item.invariant c.carry-on-sheet.ensures
+    c.loop-item.auto.items c.loop-item-test.true c.loop-item.invariant c.carry_on_sheet.ensures
 
 pub returns : goal.returns
 returns c =

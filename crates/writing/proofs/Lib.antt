@@ -2,7 +2,7 @@ pub mod Coding
 pub mod Listing
 pub mod Slotting
 pub mod Pointing
-pub mod Arrays
+pub mod InArrays
 pub mod Rounds
 pub mod Telling
 pub mod CodeParts

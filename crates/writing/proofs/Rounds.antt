@@ -23,7 +23,7 @@ use Rattle.writing.specs.Written.{names_in, starts_in, place_in, follower_slot, 
 use Rattle.writing.proofs.Listing.{in_at, apart_at, place_is, filter_join, count_rises, grown_length, grown_at}
 use Rattle.writing.proofs.Slotting.{runs_home, runs_held, in_strip, strip_runs, strip_apart}
 use Rattle.writing.proofs.Pointing.{point_is, is_point, starts_more, new_more}
-use Rattle.writing.proofs.Arrays.{Arrayed}
+use Rattle.writing.proofs.InArrays.{Arrayed}
 
 same_bool : (a b : Bool) → (a ≡ true → b ≡ true) → (b ≡ true → a ≡ true) → a ≡ b
 same_bool true b f g = sym (f refl)

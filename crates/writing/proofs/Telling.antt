@@ -19,7 +19,7 @@ use Rattle.writing.specs.Theorems.{WrittenTells}
 use Rattle.writing.proofs.Listing.{in_at, filter_few}
 use Rattle.writing.proofs.Slotting.{runs_held, strip_runs, strip_few}
 use Rattle.writing.proofs.Pointing.{new_few, new_all}
-use Rattle.writing.proofs.Arrays.{Codable, count_told, border_told, strip_told, whole_told}
+use Rattle.writing.proofs.InArrays.{Codable, count_told, border_told, strip_told, whole_told}
 use Rattle.writing.proofs.Rounds.{strip_tells}
 
 -- ---- numbers within the limits fit their bytes

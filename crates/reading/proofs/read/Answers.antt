@@ -13,11 +13,11 @@ returns c =
     let m = c.args.marks.now in
     let l = c.args.line.now in
     let rs = c.args.sheet.now.rows.at.now in
-    let e : enough max_edge m l ≡ true = enough_both max_edge m l c.if-marks-lt-MARK-BYTES.false c.if-line-lt-LINE-NAMES.false in
+    let e : enough max_edge m l ≡ true = enough_both max_edge m l c.if-marks-lt-MARK_BYTES.false c.if-line-lt-LINE_NAMES.false in
     record {
-      answer = c.read-within.ensures.answer ∙ ap (λ n. answered (sheet_verdict (leb slots n) b) tt) c.clear.ensures.length ∙ sym (ap (λ lent. answered (read_verdict lent (leb slots (length rs)) b) tt) e);
-      read = c.read-within.ensures.read;
-      length = c.read-within.ensures.length ∙ c.clear.ensures.length;
-      zero = wiped_part (marks_for max_edge) 0 m c.read-within.new.marks c.if-marks-lt-MARK-BYTES.false c.read-within.ensures.zero ∙ sym (cond-true (enough max_edge m l) _ _ e);
-      blank = wiped_part (line_for max_edge) (pos 0) l c.read-within.new.line c.if-line-lt-LINE-NAMES.false c.read-within.ensures.blank ∙ sym (cond-true (enough max_edge m l) _ _ e);
+      answer = c.read_within.ensures.answer ∙ ap (λ n. answered (sheet_verdict (leb slots n) b) tt) c.clear.ensures.length ∙ sym (ap (λ lent. answered (read_verdict lent (leb slots (length rs)) b) tt) e);
+      read = c.read_within.ensures.read;
+      length = c.read_within.ensures.length ∙ c.clear.ensures.length;
+      zero = wiped_part (marks_for max_edge) 0 m c.read_within.new.marks c.if-marks-lt-MARK_BYTES.false c.read_within.ensures.zero ∙ sym (cond-true (enough max_edge m l) _ _ e);
+      blank = wiped_part (line_for max_edge) (pos 0) l c.read_within.new.line c.if-line-lt-LINE_NAMES.false c.read_within.ensures.blank ∙ sym (cond-true (enough max_edge m l) _ _ e);
     }

@@ -9,52 +9,52 @@ use Rattle.reading.specs.Reading.{Read}
 use Rattle.reading.proofs.Deciding.{answer_shape, answer_flat, answer_yes, ready_long, accepted, refused}
 use Rattle.reading.proofs.read_into.Goals as goal
 
-pub lay-out-requires : goal.lay-out-requires
-lay-out-requires c =
+pub lay_out-requires : goal.lay_out-requires
+lay_out-requires c =
     let rs = c.args.sheet.now.rows.at.now in
-    let long : leb slots (length rs) ≡ true = ready_long c.ready.result _ c.is-err.result c.ready.ensures c.is-err.ensures.value c.if-is-err.false in
+    let long : leb slots (length rs) ≡ true = ready_long c.ready.result _ c.is_err.result c.ready.ensures c.is_err.ensures.value c.if-is_err.false in
     record {
-      accepted = accepted c.args.marks.now c.args.line.now c.args.bytes.now c.requires.buffers.0 c.requires.buffers.1 c.in-ok-judge.ensures.answer;
+      accepted = accepted c.args.marks.now c.args.line.now c.args.bytes.now c.requires.buffers.0 c.requires.buffers.1 c.in_ok-judge.ensures.answer;
       long = leb-true slots (length rs) long;
       line = c.judge.auto.line ∙ c.requires.buffers.1;
     }
 
-pub returns-in-err-judge : goal.returns-in-err-judge
-returns-in-err-judge c =
+pub returns-in_err-judge : goal.returns-in_err-judge
+returns-in_err-judge c =
     let b = c.args.bytes.now in
     let sheet = c.args.sheet.now in
     let rs = sheet.rows.at.now in
-    let long : leb slots (length rs) ≡ true = ready_long c.ready.result _ c.is-err.result c.ready.ensures c.is-err.ensures.value c.if-is-err.false in
-    let no = refused c.args.marks.now c.args.line.now b c.requires.buffers.0 c.requires.buffers.1 _ c.in-err-judge.ensures.answer in
-    let p = err_from_is_err_and c.from-residual.result c.from-residual.ensures.1 in
+    let long : leb slots (length rs) ≡ true = ready_long c.ready.result _ c.is_err.result c.ready.ensures c.is_err.ensures.value c.if-is_err.false in
+    let no = refused c.args.marks.now c.args.line.now b c.requires.buffers.0 c.requires.buffers.1 _ c.in_err-judge.ensures.answer in
+    let p = err_from_is_err_and c.from_residual.result c.from_residual.ensures.1 in
     record {
       answer = p.1 ∙ ap Err p.2 ∙ answer_shape (leb slots (length rs)) long b _ no;
       read = subst (λ r. Read r b (list_of sheet.borders) rs) (sym p.1) (c.requires.empty.0, c.requires.empty.1);
       length = refl;
     }
 
-pub returns-then-not-is-flat : goal.returns-then-not-is-flat
-returns-then-not-is-flat c =
+pub returns-then-not-is_flat : goal.returns-then-not-is_flat
+returns-then-not-is_flat c =
     let b = c.args.bytes.now in
     let rs = c.args.sheet.now.rows.at.now in
-    let long : leb slots (length rs) ≡ true = ready_long c.ready.result _ c.is-err.result c.ready.ensures c.is-err.ensures.value c.if-is-err.false in
-    let yes = accepted c.args.marks.now c.args.line.now b c.requires.buffers.0 c.requires.buffers.1 c.in-ok-judge.ensures.answer in
-    let f : flat max_edge (told_lines b).turn ≡ false = ap (λ l. flat max_edge l.turn) (sym c.lay-out.ensures.lines) ∙ sym c.is-flat.ensures ∙ c.if-not-is-flat.true in
+    let long : leb slots (length rs) ≡ true = ready_long c.ready.result _ c.is_err.result c.ready.ensures c.is_err.ensures.value c.if-is_err.false in
+    let yes = accepted c.args.marks.now c.args.line.now b c.requires.buffers.0 c.requires.buffers.1 c.in_ok-judge.ensures.answer in
+    let f : flat max_edge (told_lines b).turn ≡ false = ap (λ l. flat max_edge l.turn) (sym c.lay_out.ensures.lines) ∙ sym c.is_flat.ensures ∙ c.if-not-is_flat.true in
     record {
       answer = answer_flat (leb slots (length rs)) long b yes f;
       read = (c.clear.ensures.uncut, c.clear.ensures.empty);
-      length = c.clear.ensures.length ∙ c.lay-out.ensures.length;
+      length = c.clear.ensures.length ∙ c.lay_out.ensures.length;
     }
 
 pub returns : goal.returns
 returns c =
     let b = c.args.bytes.now in
     let rs = c.args.sheet.now.rows.at.now in
-    let long : leb slots (length rs) ≡ true = ready_long c.ready.result _ c.is-err.result c.ready.ensures c.is-err.ensures.value c.if-is-err.false in
-    let yes = accepted c.args.marks.now c.args.line.now b c.requires.buffers.0 c.requires.buffers.1 c.in-ok-judge.ensures.answer in
-    let f : flat max_edge (told_lines b).turn ≡ true = ap (λ l. flat max_edge l.turn) (sym c.lay-out.ensures.lines) ∙ sym c.is-flat.ensures ∙ c.if-not-is-flat.false in
+    let long : leb slots (length rs) ≡ true = ready_long c.ready.result _ c.is_err.result c.ready.ensures c.is_err.ensures.value c.if-is_err.false in
+    let yes = accepted c.args.marks.now c.args.line.now b c.requires.buffers.0 c.requires.buffers.1 c.in_ok-judge.ensures.answer in
+    let f : flat max_edge (told_lines b).turn ≡ true = ap (λ l. flat max_edge l.turn) (sym c.lay_out.ensures.lines) ∙ sym c.is_flat.ensures ∙ c.if-not-is_flat.false in
     record {
       answer = answer_yes (leb slots (length rs)) long b yes f;
-      read = (c.lay-out.ensures.borders, c.lay-out.ensures.lines);
-      length = c.lay-out.ensures.length;
+      read = (c.lay_out.ensures.borders, c.lay_out.ensures.lines);
+      length = c.lay_out.ensures.length;
     }

@@ -12,8 +12,8 @@ loop-i-preserved c =
     let i = c.loop-i.i in
     let same = c.requires.strip.1.1 in
     let l : i < (strip b j).slots = subst (λ s. i < s.slots) same c.loop-i-test.true in
-    let put : Put (strip b j) i c.loop-i.entries c.enter-slot.new.entries = subst (λ s. Put s i c.loop-i.entries c.enter-slot.new.entries) same c.enter-slot.ensures in
-    slot_entered b j c.requires.sound (subst Turned same c.requires.strip.1.0.turned) c.requires.tells i l c.loop-i.entries c.enter-slot.new.entries put c.loop-i.invariant
+    let put : Put (strip b j) i c.loop-i.entries c.enter_slot.new.entries = subst (λ s. Put s i c.loop-i.entries c.enter_slot.new.entries) same c.enter_slot.ensures in
+    slot_entered b j c.requires.sound (subst Turned same c.requires.strip.1.0.turned) c.requires.tells i l c.loop-i.entries c.enter_slot.new.entries put c.loop-i.invariant
 
 pub returns : goal.returns
 returns c =

@@ -7,10 +7,10 @@ use Rattle.reading.specs.Entries.{absent}
 use Rattle.reading.proofs.Telling.{entry_at, entry_off}
 use Rattle.reading.proofs.entry.entry_of.Goals as goal
 
-pub returns-then-not-name-good : goal.returns-then-not-name-good
-returns-then-not-name-good c =
+pub returns-then-not-name_good : goal.returns-then-not-name_good
+returns-then-not-name_good c =
     let h = c.args.h in
-    let e : named max_edge h ≡ false = ap (named max_edge) (sym (to_z-of_z w16 h c.ranges.h)) ∙ sym c.name-good.ensures ∙ c.if-not-name-good.true in
+    let e : named max_edge h ≡ false = ap (named max_edge) (sym (to_z-of_z w16 h c.ranges.h)) ∙ sym c.name_good.ensures ∙ c.if-not-name_good.true in
     sym (entry_off c.args.entries.now h e)
 
 pub returns : goal.returns
@@ -18,5 +18,5 @@ returns c =
     let h = c.args.h in
     let es = c.args.entries.now in
     let q = to_z-of_z w16 h c.ranges.h in
-    let e : named max_edge h ≡ true = ap (named max_edge) (sym q) ∙ sym c.name-good.ensures ∙ c.if-not-name-good.false in
-    ap (λ k. get_or es k absent) (c.place-of.ensures.value ∙ ap (mark_at max_edge) q) ∙ sym (entry_at es h e)
+    let e : named max_edge h ≡ true = ap (named max_edge) (sym q) ∙ sym c.name_good.ensures ∙ c.if-not-name_good.false in
+    ap (λ k. get_or es k absent) (c.place_of.ensures.value ∙ ap (mark_at max_edge) q) ∙ sym (entry_at es h e)

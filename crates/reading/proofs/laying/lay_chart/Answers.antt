@@ -10,8 +10,8 @@ pub returns : goal.returns
 returns c =
     let old = c.args.sheet.now in
     let new = c.layout.new.self in
-    let bs = c.read-borders.new.borders in
+    let bs = c.read_borders.new.borders in
     let l = lines_by c.args.told.now.names.now in
-    let standing = subst₂ (Standing max_edge slots) (sym c.read-borders.ensures) (sym c.requires.chart) c.requires.standing in
+    let standing = subst₂ (Standing max_edge slots) (sym c.read_borders.ensures) (sym c.requires.chart) c.requires.standing in
     let p = laid_out c.layout.result bs (list_of old.borders) (list_of new.borders) old.rows.at.now new.rows.at.now l standing c.requires.long c.layout.ensures.answer c.layout.ensures.laid in
-    record { borders = p.0 ∙ c.read-borders.ensures; lines = p.1 ∙ c.requires.chart; length = c.layout.ensures.length }
+    record { borders = p.0 ∙ c.read_borders.ensures; lines = p.1 ∙ c.requires.chart; length = c.layout.ensures.length }

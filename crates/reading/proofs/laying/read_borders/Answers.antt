@@ -11,10 +11,10 @@ loop-k-preserved c =
     let b = c.args.bytes.now in
     let k = c.loop-k.k in
     let bs = c.loop-k.borders in
-    let v = to_z w32 (of_z w32 c.read-i32.result) in
-    let f : SFits w32 c.read-i32.result = search rules in
+    let v = to_z w32 (of_z w32 c.read_i32.result) in
+    let f : SFits w32 c.read_i32.result = search rules in
     let here : k < length bs = omega (arith, c.loop-k.auto.borders) in
-    let value : v ≡ border b k = to_z-of_z w32 c.read-i32.result f ∙ c.read-i32.ensures ∙ ap (λ n. i32_at b (2 + 4 * n + 4 * k)) c.requires.shaped.count in
+    let value : v ≡ border b k = to_z-of_z w32 c.read_i32.result f ∙ c.read_i32.ensures ∙ ap (λ n. i32_at b (2 + 4 * n + 4 * k)) c.requires.shaped.count in
     take_more_set bs k v here ∙ ap (λ xs. xs ++ (v ∷ [])) c.loop-k.invariant ∙ ap (λ x. list_below (border b) k ++ (x ∷ [])) value ∙ ap (list_below (border b)) (sym (add-one k))
 
 pub returns : goal.returns

@@ -10,8 +10,8 @@ use Rattle.writing.proofs.CodeGather.{length_joined, arrays_are}
 use Rattle.writing.proofs.CodeNames.{in_strip_within}
 use Rattle.writing.proofs.arrays.write_arrays.Goals as goal
 
-pub note-slots-requires : goal.note-slots-requires
-note-slots-requires g c =
+pub note_slots-requires : goal.note_slots-requires
+note_slots-requires g c =
     let l = lines_of g.C.Turning.turn g.C.Chart.points c.args.chart.now in
     record {
       within = λ h m. in_strip_within max_edge (list_of c.args.borders.now) l (g.C.Turning.lawful c.args.chart.now) c.args.strip h (subst (λ zs. h ∈ zs) c.requires.names m);
@@ -24,15 +24,15 @@ returns g c =
     let bs = list_of c.args.borders.now in
     let names = c.args.names.now in
     let firsts = c.args.firsts.now in
-    let a = c.write-names.new.part in
-    let b = c.write-followers.new.part in
-    let x = c.write-coordinates.new.part in
-    let y = c.write-coordinates-2.new.part in
+    let a = c.write_names.new.part in
+    let b = c.write_followers.new.part in
+    let x = c.write_coordinates.new.part in
+    let y = c.write_coordinates-2.new.part in
     let follower : ℤ → List ℕ = λ h. u16_bytes (follower_slot max_edge bs l c.args.strip h) in
-    let ea : a ≡ flat_map i16_bytes names = c.write-names.ensures in
-    let eb : b ≡ flat_map follower names = c.write-followers.ensures in
-    let ex : x ≡ flat_map (λ h. i32_bytes (start_of l h).x) firsts = c.write-coordinates.ensures in
-    let ey : y ≡ flat_map (λ h. i32_bytes (start_of l h).y) firsts = c.write-coordinates-2.ensures in
+    let ea : a ≡ flat_map i16_bytes names = c.write_names.ensures in
+    let eb : b ≡ flat_map follower names = c.write_followers.ensures in
+    let ex : x ≡ flat_map (λ h. i32_bytes (start_of l h).x) firsts = c.write_coordinates.ensures in
+    let ey : y ≡ flat_map (λ h. i32_bytes (start_of l h).y) firsts = c.write_coordinates-2.ensures in
     four_parts c.args.part.now a b x y (length names) (length firsts) c.requires.long
     (ap length ea ∙ length_joined i16_bytes 2 (λ _. refl) names) (ap length eb ∙ length_joined follower 2 (λ _. refl) names)
     (ap length ex ∙ length_joined (λ h. i32_bytes (start_of l h).x) 4 (λ _. refl) firsts) (ap length ey ∙ length_joined (λ h. i32_bytes (start_of l h).y) 4 (λ _. refl) firsts)

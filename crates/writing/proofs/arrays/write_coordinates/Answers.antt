@@ -13,12 +13,12 @@ loop-k-preserved g c =
     let l = lines_of g.C.Turning.turn g.C.Chart.points c.args.chart.now in
     let enc : ℤ → List ℕ = λ h. i32_bytes (along c.args.axis (start_of l h)) in
     let k = c.loop-k.k in
-    let ys = c.copy-from-slice.new.self in
+    let ys = c.copy_from_slice.new.self in
     let z = get_or c.args.firsts.now k (pos 0) in
     let f : SFits w16 z = search rules in
     let e : ys ≡ enc z =
-    c.copy-from-slice.ensures.after ∙ c.to-le-bytes-bytes.ensures
-    ∙ ap i32_bytes (to_z-of_z w32 c.coordinate.result (record { sfits = c.coordinate.type-inv }) ∙ c.coordinate.ensures ∙ ap (λ h. along c.args.axis (start_of l h)) (to_z-of_z w16 z f)) in
+    c.copy_from_slice.ensures.after ∙ c.to_le_bytes-bytes.ensures
+    ∙ ap i32_bytes (to_z-of_z w32 c.coordinate.result (record { sfits = c.coordinate.type_inv }) ∙ c.coordinate.ensures ∙ ap (λ h. along c.args.axis (start_of l h)) (to_z-of_z w16 z f)) in
     let four : length ys ≡ 4 = ap length e in
     element_more enc c.loop-k.part c.args.firsts.now (pos 0) k (4 * k) (4 * (k + 1)) _ ys c.loop-k-test.true (omega arith) (omega arith) c.loop-k.invariant e
 

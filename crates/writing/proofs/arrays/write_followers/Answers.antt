@@ -13,8 +13,8 @@ use Rattle.writing.proofs.CodeNames.{in_strip_held}
 use Rattle.writing.proofs.CodeSlots.{element_in}
 use Rattle.writing.proofs.arrays.write_followers.Goals as goal
 
-pub follower-slot-requires : goal.follower-slot-requires
-follower-slot-requires g c =
+pub follower_slot-requires : goal.follower_slot-requires
+follower_slot-requires g c =
     let l = lines_of g.C.Turning.turn g.C.Chart.points c.args.chart.now in
     let names = c.args.names.now in
     let z = get_or names c.loop-k.k (pos 0) in
@@ -34,8 +34,8 @@ loop-k-preserved g c =
     let k = c.loop-k.k in
     let z = get_or c.args.names.now k (pos 0) in
     let f : SFits w16 z = search rules in
-    let ys = c.copy-from-slice.new.self in
-    let e : ys ≡ u16_bytes (slot z) = c.copy-from-slice.ensures.after ∙ c.to-le-bytes-bytes.ensures ∙ ap u16_bytes (c.follower-slot.ensures ∙ ap slot (to_z-of_z w16 z f)) in
+    let ys = c.copy_from_slice.new.self in
+    let e : ys ≡ u16_bytes (slot z) = c.copy_from_slice.ensures.after ∙ c.to_le_bytes-bytes.ensures ∙ ap u16_bytes (c.follower_slot.ensures ∙ ap slot (to_z-of_z w16 z f)) in
     let two : length ys ≡ 2 = ap length e in
     element_more (λ h. u16_bytes (slot h)) c.loop-k.part c.args.names.now (pos 0) k (2 * k) (2 * (k + 1)) _ ys c.loop-k-test.true (omega arith) (omega (arith, c.requires.long.0)) c.loop-k.invariant e
 

@@ -8,7 +8,7 @@ use Rattle.writing.proofs.arrays.write_names.Goals as goal
 pub loop-k-preserved : goal.loop-k-preserved
 loop-k-preserved c =
     let k = c.loop-k.k in
-    let ys = c.copy-from-slice.new.self in
+    let ys = c.copy_from_slice.new.self in
     let e : ys ≡ i16_bytes (get_or c.args.names.now k (pos 0)) = search rules in
     let two : length ys ≡ 2 = ap length e in
     element_more i16_bytes c.loop-k.part c.args.names.now (pos 0) k (2 * k) (2 * (k + 1)) _ ys c.loop-k-test.true (omega arith) (omega arith) c.loop-k.invariant e

@@ -7,16 +7,16 @@ use Rattle.writing.specs.Written.{names_in, points_in, start_of}
 use Rattle.writing.proofs.CodeGather.{slots_there, vertices_there, strip_long}
 use Rattle.writing.proofs.arrays.write_strip.Goals as goal
 
-pub slice-bounds-own-end : goal.slice-bounds-own-end
-slice-bounds-own-end g c =
+pub slice_bounds-own-end : goal.slice_bounds-own-end
+slice_bounds-own-end g c =
     slots_there max_edge (list_of c.args.borders.now) (lines_of g.C.Turning.turn g.C.Chart.points c.args.chart.now) c.args.strip c.gather-sizes.result c.gather-sizes.new.names c.gather-sizes.new.firsts c.gather-sizes.ensures
 
-pub slice-bounds-starts-end : goal.slice-bounds-starts-end
-slice-bounds-starts-end g c =
+pub slice_bounds-starts-end : goal.slice_bounds-starts-end
+slice_bounds-starts-end g c =
     vertices_there max_edge (list_of c.args.borders.now) (lines_of g.C.Turning.turn g.C.Chart.points c.args.chart.now) c.args.strip c.gather-sizes.result c.gather-sizes.new.names c.gather-sizes.new.firsts c.gather-sizes.ensures
 
-pub write-arrays-requires : goal.write-arrays-requires
-write-arrays-requires g c =
+pub write_arrays-requires : goal.write_arrays-requires
+write_arrays-requires g c =
     let l = lines_of g.C.Turning.turn g.C.Chart.points c.args.chart.now in
     let bs = list_of c.args.borders.now in
     let size = c.gather-sizes.result in

@@ -10,15 +10,15 @@ use Rattle.writing.proofs.CodeNames.{in_strip_held, in_strip_within}
 use Rattle.writing.proofs.CodeSlots.{element_in}
 use Rattle.writing.proofs.CodeFirsts.{Firsts, firsts_none, firsts_past, firsts_old, firsts_new, firsts_all}
 use Rattle.writing.proofs.gather.collect_firsts.Goals as goal
-use Rattle.writing.proofs.gather.collect_firsts.Goals.{then-starts-in+then-not-is-marked, else-starts-in, else-starts-in-via-then-starts-in+else-not-is-marked, else-starts-in-via-else-starts-in}
+use Rattle.writing.proofs.gather.collect_firsts.Goals.{then-starts_in+then-not-is_marked, else-starts_in, else-starts_in-via-then-starts_in+else-not-is_marked, else-starts_in-via-else-starts_in}
 
 pub loop-k-init : goal.loop-k-init
 loop-k-init g c =
     let l = lines_of g.C.Turning.turn g.C.Chart.points c.args.chart.now in
     firsts_none max_edge l (g.C.Turning.lawful c.args.chart.now) c.placed.ensures (list_of c.args.borders.now) c.args.strip c.args.names.now c.args.marks.now c.args.firsts.now c.requires.marks.1
 
-pub is-marked-requires : goal.is-marked-requires
-is-marked-requires g c =
+pub is_marked-requires : goal.is_marked-requires
+is_marked-requires g c =
     let l = lines_of g.C.Turning.turn g.C.Chart.points c.args.chart.now in
     let names = c.args.names.now in
     let z = get_or names c.loop-k.k (pos 0) in
@@ -26,8 +26,8 @@ is-marked-requires g c =
     let own : z ∈ names_in max_edge (list_of c.args.borders.now) l c.args.strip = subst (λ zs. z ∈ zs) c.requires.names (element_in names c.loop-k.k c.loop-k-test.true) in
     (c.loop-k.auto.marks ∙ c.requires.marks.0, subst (Within max_edge) (sym (to_z-of_z w16 z f)) (in_strip_within max_edge _ l (g.C.Turning.lawful c.args.chart.now) _ z own))
 
-pub mark-round-requires : goal.mark-round-requires
-mark-round-requires g c =
+pub mark_round-requires : goal.mark_round-requires
+mark_round-requires g c =
     let l = lines_of g.C.Turning.turn g.C.Chart.points c.args.chart.now in
     let names = c.args.names.now in
     let z = get_or names c.loop-k.k (pos 0) in
@@ -56,23 +56,23 @@ loop-k-preserved g c =
     let own : z ∈ names_in max_edge bs l i = subst (λ zs. z ∈ zs) c.requires.names (element_in names k below) in
     let held : l.turn.held z ≡ true = in_strip_held max_edge bs l law i z own in
     let back = to_z-of_z w16 z f in
-    let starts : c.starts-in.result ≡ starts_in bs l i z = c.starts-in.ensures ∙ ap (starts_in bs l i) back in
+    let starts : c.starts_in.result ≡ starts_in bs l i z = c.starts_in.ensures ∙ ap (starts_in bs l i) back in
     let few = c.loop-k.invariant.few in
     let room : c.loop-k.count < length c.loop-k.firsts = omega (arith, c.loop-k.auto.firsts, c.requires.firsts.0, c.requires.firsts.1) in
-    elim c.if-starts-in.branch [
-      | then-starts-in+then-not-is-marked w ↦
+    elim c.if-starts_in.branch [
+      | then-starts_in+then-not-is_marked w ↦
           alike l bs i names (k + 1) w.marks-is (w.firsts-is ∙ ap (set c.loop-k.firsts c.loop-k.count) back) w.count-is
-          (firsts_new max_edge l law placed bs i names k c.loop-k.marks c.loop-k.firsts c.loop-k.count below c.loop-k.invariant held (sym starts ∙ w.if-starts-in.true)
-          (ap (marked max_edge c.loop-k.marks) (sym back) ∙ sym w.if-not-is-marked.ensures) room w.mark-round.new.marks
-          (subst (λ y. Spreads max_edge l.turn (l.turn.follower ∷ []) y c.loop-k.marks w.mark-round.new.marks) back w.mark-round.ensures))
-      | else-starts-in w ↦
+          (firsts_new max_edge l law placed bs i names k c.loop-k.marks c.loop-k.firsts c.loop-k.count below c.loop-k.invariant held (sym starts ∙ w.if-starts_in.true)
+          (ap (marked max_edge c.loop-k.marks) (sym back) ∙ sym w.if-not-is_marked.ensures) room w.mark_round.new.marks
+          (subst (λ y. Spreads max_edge l.turn (l.turn.follower ∷ []) y c.loop-k.marks w.mark_round.new.marks) back w.mark_round.ensures))
+      | else-starts_in w ↦
           alike l bs i names (k + 1) w.marks-is w.firsts-is w.count-is
-          (elim w.else-starts-in.branch [
-            | else-starts-in-via-then-starts-in+else-not-is-marked v ↦
-                firsts_old max_edge l law placed bs i names k c.loop-k.marks c.loop-k.firsts c.loop-k.count below c.loop-k.invariant held (sym starts ∙ v.if-starts-in.true)
-                (ap (marked max_edge c.loop-k.marks) (sym back) ∙ sym v.if-not-is-marked.ensures)
-            | else-starts-in-via-else-starts-in v ↦
-                firsts_past max_edge l law placed bs i names k c.loop-k.marks c.loop-k.firsts c.loop-k.count below c.loop-k.invariant (sym starts ∙ v.if-starts-in.false)
+          (elim w.else-starts_in.branch [
+            | else-starts_in-via-then-starts_in+else-not-is_marked v ↦
+                firsts_old max_edge l law placed bs i names k c.loop-k.marks c.loop-k.firsts c.loop-k.count below c.loop-k.invariant held (sym starts ∙ v.if-starts_in.true)
+                (ap (marked max_edge c.loop-k.marks) (sym back) ∙ sym v.if-not-is_marked.ensures)
+            | else-starts_in-via-else-starts_in v ↦
+                firsts_past max_edge l law placed bs i names k c.loop-k.marks c.loop-k.firsts c.loop-k.count below c.loop-k.invariant (sym starts ∙ v.if-starts_in.false)
           ])
     ]
 

@@ -8,10 +8,10 @@ use Rattle.writing.proofs.gather.gather.Goals as goal
 
 pub returns : goal.returns
 returns g c =
-    let many = c.collect-names-slots.ensures.few in
-    let few = c.collect-firsts-vertices.ensures.few in
-    let own = length-take (c.collect-names-slots.result - 0) c.collect-names-slots.new.names in
-    let names : length c.collect-names-slots.new.names ≡ line_for max_edge = c.collect-names-slots.auto.names ∙ c.requires.0 in
-    let firsts : length c.collect-firsts-vertices.new.firsts ≡ line_for max_edge = c.collect-firsts-vertices.auto.firsts ∙ c.requires.1 in
-    gathered max_edge (list_of c.args.borders.now) (lines_of g.C.Turning.turn g.C.Chart.points c.args.chart.now) c.args.strip c.collect-firsts-vertices.result c.collect-names-slots.result
-    c.collect-names-slots.new.names c.collect-firsts-vertices.new.firsts c.collect-names-slots.ensures.named (omega arith) c.collect-firsts-vertices.ensures.started (omega arith)
+    let many = c.collect_names-slots.ensures.few in
+    let few = c.collect_firsts-vertices.ensures.few in
+    let own = length-take (c.collect_names-slots.result - 0) c.collect_names-slots.new.names in
+    let names : length c.collect_names-slots.new.names ≡ line_for max_edge = c.collect_names-slots.auto.names ∙ c.requires.0 in
+    let firsts : length c.collect_firsts-vertices.new.firsts ≡ line_for max_edge = c.collect_firsts-vertices.auto.firsts ∙ c.requires.1 in
+    gathered max_edge (list_of c.args.borders.now) (lines_of g.C.Turning.turn g.C.Chart.points c.args.chart.now) c.args.strip c.collect_firsts-vertices.result c.collect_names-slots.result
+    c.collect_names-slots.new.names c.collect_firsts-vertices.new.firsts c.collect_names-slots.ensures.named (omega arith) c.collect_firsts-vertices.ensures.started (omega arith)

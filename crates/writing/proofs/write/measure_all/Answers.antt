@@ -12,25 +12,25 @@ loop-j-init g c = measured_none max_edge (list_of c.args.borders.now) (lines_of 
 pub bounds-sizes-j : goal.bounds-sizes-j
 bounds-sizes-j g c =
     let b = c.args.borders.now in
-    let few = c.strip-count-j-end.ensures.few in
-    omega (arith, c.loop-j.auto.sizes, c.requires, c.strip-count-j-end.ensures.count, c.loop-j-test.true)
+    let few = c.strip_count-j-end.ensures.few in
+    omega (arith, c.loop-j.auto.sizes, c.requires, c.strip_count-j-end.ensures.count, c.loop-j-test.true)
 
-pub overflow-add-total : goal.overflow-add-total
-overflow-add-total g c =
+pub overflow_add-total : goal.overflow_add-total
+overflow_add-total g c =
     let b = c.args.borders.now in
-    let few = c.strip-count-j-end.ensures.few in
+    let few = c.strip_count-j-end.ensures.few in
     let v : Fits w16 c.measure-own.result.vertices = search rules in
     let s : Fits w16 c.measure-own.result.slots = search rules in
-    omega (arith, c.loop-j.invariant.few, c.bytes-total.ensures, c.strip-count-j-end.ensures.count, c.loop-j-test.true)
+    omega (arith, c.loop-j.invariant.few, c.bytes-total.ensures, c.strip_count-j-end.ensures.count, c.loop-j-test.true)
 
 pub loop-j-preserved : goal.loop-j-preserved
 loop-j-preserved g c =
     let l = lines_of g.C.Turning.turn g.C.Chart.points c.args.chart.now in
     let b = c.args.borders.now in
-    let few = c.strip-count-j-end.ensures.few in
+    let few = c.strip_count-j-end.ensures.few in
     let v : Fits w16 c.measure-own.result.vertices = search rules in
     let s : Fits w16 c.measure-own.result.slots = search rules in
-    let room : c.loop-j.j < length c.loop-j.sizes = omega (arith, c.loop-j.auto.sizes, c.requires, c.strip-count-j-end.ensures.count, c.loop-j-test.true) in
+    let room : c.loop-j.j < length c.loop-j.sizes = omega (arith, c.loop-j.auto.sizes, c.requires, c.strip_count-j-end.ensures.count, c.loop-j-test.true) in
     subst (λ k. Measured max_edge (list_of b) l (c.loop-j.j + 1) (set c.loop-j.sizes c.loop-j.j c.measure-own.result) (c.loop-j.total + k)) (sym c.bytes-total.ensures)
     (measured_more max_edge (list_of b) l c.loop-j.j c.loop-j.sizes c.loop-j.total c.measure-own.result room c.measure-own.ensures v.fits s.fits c.loop-j.invariant)
 
@@ -38,8 +38,8 @@ pub returns : goal.returns
 returns g c =
     let l = lines_of g.C.Turning.turn g.C.Chart.points c.args.chart.now in
     let b = c.args.borders.now in
-    let few = c.strip-count-j-end.ensures.few in
+    let few = c.strip_count-j-end.ensures.few in
     let last = c.loop-j.auto.j-end in
-    let end : c.loop-j.j ≡ strip_count (list_of b) = omega (arith, c.strip-count-j-end.ensures.count, c.loop-j-test.false) in
+    let end : c.loop-j.j ≡ strip_count (list_of b) = omega (arith, c.strip_count-j-end.ensures.count, c.loop-j-test.false) in
     let all : Measured max_edge (list_of b) l (strip_count (list_of b)) c.loop-j.sizes c.loop-j.total = subst (λ j. Measured max_edge (list_of b) l j c.loop-j.sizes c.loop-j.total) end c.loop-j.invariant in
     record { sizes = all.put; long = all.long; few = omega (arith, all.few) }

@@ -12,11 +12,11 @@ pub returns : goal.returns
 returns c =
     let bs = list_of c.args.borders.now in
     let own = c.args.sizes.now in
-    let n = c.copy-from-slice.new.self in
-    let s = c.write-sizes.new.part in
-    let b = c.write-borders.new.part in
-    let en : n ≡ u16_bytes (strip_count bs) = c.copy-from-slice.ensures.after ∙ c.to-le-bytes-count.ensures ∙ ap u16_bytes c.strip-count.ensures.count in
-    let es : s ≡ flat_map sizes_bytes own = c.write-sizes.ensures in
-    let eb : b ≡ flat_map i32_bytes bs = c.write-borders.ensures in
+    let n = c.copy_from_slice.new.self in
+    let s = c.write_sizes.new.part in
+    let b = c.write_borders.new.part in
+    let en : n ≡ u16_bytes (strip_count bs) = c.copy_from_slice.ensures.after ∙ c.to_le_bytes-count.ensures ∙ ap u16_bytes c.strip_count.ensures.count in
+    let es : s ≡ flat_map sizes_bytes own = c.write_sizes.ensures in
+    let eb : b ≡ flat_map i32_bytes bs = c.write_borders.ensures in
     head_laid c.args.part.now n s b (length own) (length bs) c.requires (ap length en) (ap length es ∙ length_joined sizes_bytes 4 (λ _. refl) own) (ap length eb ∙ length_joined i32_bytes 4 (λ _. refl) bs)
     ∙ ap₂ (λ x y. x ++ (y ++ b)) en es ∙ ap (λ z. u16_bytes (strip_count bs) ++ (flat_map sizes_bytes own ++ z)) eb

@@ -11,9 +11,9 @@ loop-k-preserved c =
     let k = c.loop-k.k in
     let none : Sizes = record { vertices = 0; slots = 0 } in
     let own = get_or c.args.sizes.now k none in
-    let ys = c.copy-from-slice.new.self in
+    let ys = c.copy_from_slice.new.self in
     let e : ys ≡ sizes_bytes own =
-    c.copy-from-slice.ensures.after ∙ ap₂ (λ v s. get_or v 0 0 ∷ (get_or v 1 0 ∷ (get_or s 0 0 ∷ (get_or s 1 0 ∷ [])))) c.to-le-bytes-v.ensures c.to-le-bytes-s.ensures in
+    c.copy_from_slice.ensures.after ∙ ap₂ (λ v s. get_or v 0 0 ∷ (get_or v 1 0 ∷ (get_or s 0 0 ∷ (get_or s 1 0 ∷ [])))) c.to_le_bytes-v.ensures c.to_le_bytes-s.ensures in
     let four : length ys ≡ 4 = ap length e in
     element_more sizes_bytes c.loop-k.part c.args.sizes.now none k (4 * k) (4 * (k + 1)) _ ys c.loop-k-test.true (omega arith) (omega arith) c.loop-k.invariant e
 

@@ -29,17 +29,17 @@ part_of bs l sizes part j at bytes d is long below here are =
 pub loop-j-init : goal.loop-j-init
 loop-j-init g c = stripwise_none max_edge (list_of c.args.borders.now) (lines_of g.C.Turning.turn g.C.Chart.points c.args.chart.now) c.args.part.now
 
-pub overflow-add-end : goal.overflow-add-end
-overflow-add-end g c =
+pub overflow_add-end : goal.overflow_add-end
+overflow_add-end g c =
     let inside = (part_of (list_of c.args.borders.now) (lines_of g.C.Turning.turn g.C.Chart.points c.args.chart.now) c.args.sizes.now c.loop-j.part c.loop-j.j c.loop-j.at c.bytes.result _ c.requires.sizes (c.loop-j.auto.part ∙ c.requires.long) c.loop-j-test.true c.loop-j.invariant.here c.bytes.ensures).within in
     search rules
 
-pub slice-bounds-write-strip-end : goal.slice-bounds-write-strip-end
-slice-bounds-write-strip-end g c =
+pub slice_bounds-write_strip-end : goal.slice_bounds-write_strip-end
+slice_bounds-write_strip-end g c =
     (part_of (list_of c.args.borders.now) (lines_of g.C.Turning.turn g.C.Chart.points c.args.chart.now) c.args.sizes.now c.loop-j.part c.loop-j.j c.loop-j.at c.bytes.result _ c.requires.sizes (c.loop-j.auto.part ∙ c.requires.long) c.loop-j-test.true c.loop-j.invariant.here c.bytes.ensures).within
 
-pub write-strip-requires : goal.write-strip-requires
-write-strip-requires g c =
+pub write_strip-requires : goal.write_strip-requires
+write_strip-requires g c =
     (part_of (list_of c.args.borders.now) (lines_of g.C.Turning.turn g.C.Chart.points c.args.chart.now) c.args.sizes.now c.loop-j.part c.loop-j.j c.loop-j.at c.bytes.result _ c.requires.sizes (c.loop-j.auto.part ∙ c.requires.long) c.loop-j-test.true c.loop-j.invariant.here c.bytes.ensures).long
 
 pub loop-j-preserved : goal.loop-j-preserved
@@ -48,7 +48,7 @@ loop-j-preserved g c =
     let bs = list_of c.args.borders.now in
     let p = part_of bs l c.args.sizes.now c.loop-j.part c.loop-j.j c.loop-j.at c.bytes.result _ c.requires.sizes (c.loop-j.auto.part ∙ c.requires.long) c.loop-j-test.true c.loop-j.invariant.here c.bytes.ensures in
     let room : c.loop-j.at ≤ length c.loop-j.part = omega (arith, p.within) in
-    stripwise_more max_edge bs l c.loop-j.j c.loop-j.part c.write-strip.new.part c.loop-j.at (c.loop-j.at + c.bytes.result) _ c.loop-j.invariant c.write-strip.ensures p.to room
+    stripwise_more max_edge bs l c.loop-j.j c.loop-j.part c.write_strip.new.part c.loop-j.at (c.loop-j.at + c.bytes.result) _ c.loop-j.invariant c.write_strip.ensures p.to room
 
 pub returns : goal.returns
 returns g c =

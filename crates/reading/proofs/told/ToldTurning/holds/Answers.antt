@@ -1,5 +1,5 @@
 use Rattle.reading.proofs.Telling.{telling_out}
 use Rattle.reading.proofs.told.ToldTurning.holds.Goals as goal
 
-pub entry-of-requires : goal.entry-of-requires
-entry-of-requires c = (telling_out _ c.args.self.now.ok).long
+pub entry_of-requires : goal.entry_of-requires
+entry_of-requires c = (telling_out _ c.args.self.now.ok).long

@@ -1,4 +1,4 @@
-// What the benchmarks in bench/ call from Rust: a chain of edges in a table or in strips, and a walk along its one loop.
+// What the programs in bench/ call: a chain of edges in a table or in strips, with a walk along its one loop; and the whole engine behind one function on bytes.
 #![tactic(auto)]
 
 use chart::Store;
@@ -8,6 +8,8 @@ use strips::sheet::Sheet;
 use table::Table;
 use turning::limits::MAX_EDGE;
 use turning::{LoopSide, Turning};
+
+pub mod run;
 
 // Borders for as many strips as a sheet may have.
 const BORDERS: [i32; 31] = [
@@ -51,8 +53,7 @@ fn walk<T: Turning>(t: &T, steps: u32) -> i64 {
 }
 
 // The sum over a walk along a chain in a single table.
-#[unsafe(no_mangle)]
-pub extern "C" fn bench_walk_table(edges: u16, steps: u32) -> i64 {
+pub fn bench_walk_table(edges: u16, steps: u32) -> i64 {
     let mut memory: [Halfedge; 4000] = [FREE; 4000];
     let mut table = Table::new(&mut memory);
     let _drawn = draw_chain(&mut table, edges);
@@ -60,8 +61,7 @@ pub extern "C" fn bench_walk_table(edges: u16, steps: u32) -> i64 {
 }
 
 // The sum over a walk along a chain that is laid out in 32 strips; 0 where it finds no room there.
-#[unsafe(no_mangle)]
-pub extern "C" fn bench_walk_sheet(edges: u16, steps: u32) -> i64 {
+pub fn bench_walk_sheet(edges: u16, steps: u32) -> i64 {
     let mut memory: [Halfedge; 4000] = [FREE; 4000];
     let mut table = Table::new(&mut memory);
     let _drawn = draw_chain(&mut table, edges);

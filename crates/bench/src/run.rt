@@ -13,7 +13,7 @@ use reading::read;
 use strips::sheet::Sheet;
 use turning::limits::{LINE_NAMES, MARK_BYTES};
 use turning::refusal::Refusal;
-use writing::write;
+use writing::write::write;
 
 const CALL: usize = 24;
 
@@ -32,7 +32,7 @@ struct Asked {
 }
 
 // Takes a call apart. What `c` is to a sprout or a join, `east` is to a split.
-fn asked(bytes: &[u8]) -> Asked
+fn call_at(bytes: &[u8]) -> Asked
     requires { 24 ≤ length bytes.now }
 {
     Asked {
@@ -138,7 +138,7 @@ fn carry_all(
     line: &mut [i16],
 ) {
     for k in 0..calls.len() / CALL {
-        let call = asked(&calls[CALL * k..CALL * k + CALL]);
+        let call = call_at(&calls[CALL * k..CALL * k + CALL]);
         let answer = carry(sheet, call, marks, line);
         let c = counted(sheet, call.kind, marks, line);
         if ANSWER * k + ANSWER <= answers.len() {
@@ -148,8 +148,7 @@ fn carry_all(
 }
 
 // Reads the file into a sheet of its own, carries out the calls, and writes the sheet. Answers the length of what was written, -29 where the out buffer is short, and -1 where the file has a fault, which then stands in the place of the first answer.
-#[unsafe(no_mangle)]
-pub extern "C" fn engine_run(file: &[u8], calls: &[u8], answers: &mut [u8], out: &mut [u8]) -> i64 {
+pub fn engine_run(file: &[u8], calls: &[u8], answers: &mut [u8], out: &mut [u8]) -> i64 {
     let mut memory: [Halfedge; 4000] = [FREE; 4000];
     let mut sheet = Sheet::new(&mut memory);
     let mut marks = [0u8; MARK_BYTES];

@@ -9,7 +9,8 @@ ghost use Rattle.file.specs.Views.{told, Whole};
 use crate::followed::slots_followed;
 use crate::names::names_good;
 use crate::paired::names_paired;
-use crate::plain::{followers_good, points_good, points_new};
+use crate::plain::{followers_good, points_good};
+use crate::points::points_differ;
 use crate::walks::rounds_right;
 use file::fault::StripFault;
 use file::parts::{eastern_border, lend_strip, western_border};
@@ -32,7 +33,7 @@ pub fn ask_strip(
     slots_followed(s, number, marks)?;
     rounds_right(s, number, marks)?;
     points_good(s, number, west, east)?;
-    points_new(s, number)
+    points_differ(s, number)
 }
 
 // The first fault of the strips of a file, all questions of one strip before the next.

@@ -7,4 +7,5 @@ pub mod names;
 mod paired;
 pub mod place;
 mod plain;
+mod points;
 mod walks;

@@ -91,4 +91,4 @@ returns c =
     let n9 = ok_none (q9 (told c.args.s) c.args.number) _ _ c.in_ok-slots_followed.ensures in
     let n10 = ok_none (q10 (told c.args.s) c.args.number) _ _ c.in_ok-rounds_right.ensures in
     let n11 = ok_none (q11 c.args.west c.args.east (told c.args.s) c.args.number) _ _ c.in_ok-points_good.ensures in
-    c.points_new.ensures ∙ ap (λ o. answered o tt) (sym (ends c.args.west c.args.east (told c.args.s) c.args.number n6 n7 n8 n9 n10 n11))
+    c.points_differ.ensures ∙ ap (λ o. answered o tt) (sym (ends c.args.west c.args.east (told c.args.s) c.args.number n6 n7 n8 n9 n10 n11))

@@ -1,5 +1,5 @@
 -- Being placed has one proof at most, so that it comes out of a truncation. Assumes nothing.
-use Rattle.std.proofs.Common.{◌≡◌, ℕ, Bool, true, false, ℤ, pos, Some, None, Option, refl, ap, arith}
+use Rattle.std.proofs.Common.{◌≡◌, ℕ, ℤ, Some, None, Option, refl, ap, arith}
 use mathlib.Core.Bool.{Bool-set}
 use mathlib.Core.HLevel.{hedberg, Discrete}
 use lib.IntN.{ℤ_discrete}

@@ -1,9 +1,9 @@
 -- Whether some vertex stands at a point, name by name. Assumes nothing.
-use Rattle.std.proofs.Common.{◌≡◌, ℕ, zero, suc, ◌≤◌, Bool, true, false, T, ◌⊎◌, ℤ, pos, negsuc, neg_ℤ, Some, None, Option, sym, refl, ap, ◌∙◌, subst, inl, inr}
+use Rattle.std.proofs.Common.{◌≡◌, ℕ, suc, ◌≤◌, Bool, true, false, T, ℤ, pos, negsuc, neg_ℤ, refl, ap}
 use Rattle.std.proofs.lemmas.Bool.{both_ways}
-use Rattle.flat.specs.Orbits.{◌∈◌, any}
+use Rattle.flat.specs.Orbits.{◌∈◌}
 use Rattle.flat.proofs.Basics.{any_has, any_gives, T_true, not_T_false}
-use Rattle.turning.specs.Turn.{Turn, Lawful}
+use Rattle.turning.specs.Turn.{Lawful}
 use Rattle.turning.specs.Counts.{holding}
 use Rattle.turning.proofs.Listed.{Named, in_holding, holding_held, held_named, true_T}
 use Rattle.chart.specs.declared.point.Point.{Point}

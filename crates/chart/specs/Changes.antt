@@ -1,6 +1,6 @@
 -- The three changes of line work: an edge hung between two ends, an edge lifted, an edge cleft at a point.
 -- Assumes nothing.
-use Rattle.std.specs.Prelude.{◌≡◌, ℕ, Bool, true, false, cond, not, ◌&&◌, ◌||◌, List, ℤ, pos, negsuc, neg_ℤ, Some, None, Option, nat_le}
+use Rattle.std.specs.Prelude.{ℕ, Bool, true, false, cond, not, ◌&&◌, ℤ, pos, neg_ℤ, Some, None, Option, nat_le}
 use Rattle.flat.specs.Orbits.{any}
 use Rattle.flat.specs.Whole.{equal}
 use Rattle.turning.specs.Turn.{Turn}

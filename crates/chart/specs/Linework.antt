@@ -1,7 +1,7 @@
 -- Line work: a turning, and the point where each held name starts. This is what a chart means; charts are equal when this is.
 -- Assumes nothing.
-use Rattle.std.specs.Prelude.{◌≡◌, ℕ, Bool, true, false, ℤ, pos, negsuc, neg_ℤ, Some, None, Option}
-use Rattle.turning.specs.Turn.{Turn, Lawful, no_turn}
+use Rattle.std.specs.Prelude.{◌≡◌, ℕ, true, false, ℤ, pos, neg_ℤ, None, Option}
+use Rattle.turning.specs.Turn.{Turn, no_turn}
 use Rattle.turning.specs.Counts.{same_round}
 use Rattle.chart.specs.declared.point.Point.{Point}
 use Rattle.chart.specs.Points.{told_west, told_on_sheet}

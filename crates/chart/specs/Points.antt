@@ -1,6 +1,6 @@
 -- Points: which are on the sheet, and which of two is west.
 -- Assumes nothing.
-use Rattle.std.specs.Prelude.{Bool, true, false, cond, not, ◌&&◌, ◌||◌, ℤ, pos, neg_ℤ, Some, None, Option, int_le, int_lt}
+use Rattle.std.specs.Prelude.{Bool, false, ◌&&◌, ◌||◌, ℤ, pos, neg_ℤ, Some, None, Option, int_le, int_lt}
 use Rattle.flat.specs.Whole.{equal}
 use Rattle.turning.specs.Limits.{max_coordinate}
 use Rattle.chart.specs.declared.point.Point.{Point}

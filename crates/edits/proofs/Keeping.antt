@@ -1,6 +1,6 @@
 -- What an edit keeps: flat line work, and the law of joins.
 -- Assumes nothing.
-use Rattle.std.proofs.Common.{◌≡◌, ℕ, Bool, true, false, cond, not, ◌&&◌, ◌||◌, ◌⊎◌, ◌↔◌, List, [], ◌∷◌, ◌++◌, ℤ, pos, Some, None, Ok, Err, Option, sym, refl, ap, ◌∙◌, subst, ap₂, subst₂, inl, inr, arith}
+use Rattle.std.proofs.Common.{◌≡◌, ℕ, Bool, true, false, cond, not, ◌⊎◌, ◌↔◌, [], ◌∷◌, ◌++◌, ℤ, Some, None, Ok, Err, Option, sym, refl, ◌∙◌, subst, ap₂, subst₂, inl, inr, arith}
 use Rattle.std.proofs.lemmas.Bool.{and_parts, or_cases, or_parts, not-true, not-false, both_ways, cases_Bool, cond-true, cond-false}
 use Rattle.flat.proofs.Basics.{T_true, true_T}
 use Rattle.turning.specs.declared.refusal.Refusal.{Refusal}
@@ -13,12 +13,11 @@ use Rattle.search.specs.Buffers.{enough}
 use Rattle.chart.specs.declared.point.Point.{Point}
 use Rattle.chart.specs.declared.point.End.{End}
 use Rattle.chart.specs.Points.{same_point}
-use Rattle.chart.specs.Linework.{Linework}
 use Rattle.chart.specs.Changes.{hung}
 use Rattle.chart.specs.Stores.{Meaning}
 use Rattle.laws.specs.Keeps.{Sound}
 use Rattle.laws.proofs.Proved.{hung_flat, lifted_flat, cleft_flat}
-use Rattle.edits.specs.Edits.{Edit, starts, sprouts, joins, splits, removes, questions, join_before, join_last, join_questions, may_join, start_of, new_end, after, corner_end, free_point, made, Changed, Done, KeepsFlat, Judged}
+use Rattle.edits.specs.Edits.{Edit, starts, sprouts, joins, splits, removes, questions, join_before, join_last, may_join, start_of, new_end, after, free_point, made, Changed, Done, KeepsFlat, Judged}
 use Rattle.edits.specs.Asked.{Started}
 use Rattle.edits.proofs.Points.{started_is}
 use Rattle.edits.proofs.Tables.{said, corner_is, start_is, start_asked, sprout_asked, join_asked, split_asked}

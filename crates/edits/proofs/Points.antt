@@ -1,10 +1,10 @@
 -- What the code finds of names and points. Assumes nothing.
-use Rattle.std.proofs.Common.{◌≡◌, ℕ, Bool, true, false, ◌&&◌, ◌⊎◌, ℤ, Some, None, Option, sym, refl, ap, ◌∙◌, ap₂, inl, inr, arith}
+use Rattle.std.proofs.Common.{◌≡◌, ℕ, true, false, ◌⊎◌, ℤ, Some, None, Option, sym, refl, ap, ◌∙◌, ap₂, inl, inr, arith}
 use Rattle.std.proofs.lemmas.Bool.{and_from, and_parts, cases_Bool, both_ways}
 use Rattle.flat.specs.Whole.{equal}
 use Rattle.flat.proofs.Basics.{any_has, T_true, true_T}
 use Rattle.flat.proofs.Whole.{equal_is}
-use Rattle.turning.specs.Turn.{Turn, Lawful}
+use Rattle.turning.specs.Turn.{Lawful}
 use Rattle.turning.specs.Counts.{holding}
 use Rattle.turning.proofs.Listed.{in_holding}
 use Rattle.chart.specs.declared.point.Point.{Point}

@@ -1,10 +1,10 @@
 -- What a table of questions answers once the earlier questions are answered yes, and the edits whole.
 -- Assumes nothing.
-use Rattle.std.proofs.Common.{◌≡◌, ℕ, Bool, true, false, cond, not, ◌&&◌, ◌||◌, List, [], ◌∷◌, ◌++◌, ℤ, pos, neg_ℤ, Some, None, Ok, Err, sym, refl, ap, ◌∙◌, subst, ap₂}
+use Rattle.std.proofs.Common.{◌≡◌, ℕ, Bool, true, false, cond, not, ◌&&◌, List, [], ◌∷◌, ℤ, pos, neg_ℤ, Some, Ok, Err, sym, refl, ap, ◌∙◌, subst, ap₂}
 use Rattle.std.proofs.lemmas.Bool.{and_parts, and_from, not-true, not_from_false, not_from_true, cond-true, cond-false}
 use Rattle.turning.specs.declared.refusal.Refusal.{Refusal}
 use Rattle.turning.specs.declared.refusal.Refusal.TheVariants.{NoRoom, SameEnds}
-use Rattle.turning.specs.Refusals.{Questions, Outcome, granted, outcome}
+use Rattle.turning.specs.Refusals.{Questions, Outcome, outcome}
 use Rattle.turning.specs.Turn.{Lawful}
 use Rattle.search.specs.Buffers.{enough}
 use Rattle.chart.specs.declared.point.Point.{Point}
@@ -13,7 +13,7 @@ use Rattle.chart.specs.Points.{is_point, on_sheet, same_point, told_west}
 use Rattle.chart.specs.Linework.{Linework}
 use Rattle.chart.specs.Changes.{numbered, vertex_at, hung, may_hang, joins_at, may_cleave}
 use Rattle.chart.specs.Stores.{Meaning, Change, Hangs, Cleaves}
-use Rattle.edits.specs.Edits.{Edit, starts, sprouts, joins, splits, removes, questions, join_questions, made, Changed, Settled, Done, free_point, inside, may_join, told_point, new_end, after, corner_end, start_of}
+use Rattle.edits.specs.Edits.{starts, sprouts, joins, splits, questions, join_questions, Changed, Settled, Done, free_point, inside, may_join, told_point, new_end, after, corner_end, start_of}
 use Rattle.edits.specs.Asked.{Started}
 use Rattle.edits.proofs.Points.{point_refl, apart_from}
 

@@ -1,7 +1,6 @@
 -- The five edits: the questions that each asks, in order, what it makes of the line work, and what holds of its answer.
 -- Assumes nothing.
-use Rattle.std.specs.Prelude.{◌≡◌, ℕ, Bool, true, false, cond, not, ◌&&◌, ◌||◌, ◌↔◌, List, [], ◌∷◌, ◌++◌, ℤ, pos, neg_ℤ, Some, None, Ok, Err, Option}
-use Rattle.turning.specs.declared.refusal.Refusal.{Refusal}
+use Rattle.std.specs.Prelude.{◌≡◌, ℕ, Bool, not, ◌&&◌, ◌||◌, ◌↔◌, List, [], ◌∷◌, ◌++◌, ℤ, pos, neg_ℤ, Some, None, Ok, Err, Option}
 use Rattle.turning.specs.declared.refusal.Refusal.TheVariants.{ShortBuffers, NumberOutOfRange, NumberInUse, NotThere, PointTaken, SameEnds, NotInside, LoopsOfOnePiece, NoRoom}
 use Rattle.turning.specs.Refusals.{Questions, Outcome, granted, outcome}
 use Rattle.turning.specs.Turn.{Turn}

@@ -1,15 +1,14 @@
 -- Memories where every row is home or free: what goes to make them so, and what they count. Assumes nothing.
-use Rattle.std.proofs.Common.{◌≡◌, ℕ, zero, suc, ◌+◌, ◌-◌, ◌*◌, ◌<◌, ◌≤◌, Bool, true, false, cond, not, ◌&&◌, eqb, leb, ◌⊎◌, ℤ, pos, negsuc, neg_ℤ, nat_abs, Some, None, Option, sym, refl, ap, ◌∙◌, subst, ap₂, inl, inr, arith}
+use Rattle.std.proofs.Common.{◌≡◌, ℕ, zero, suc, ◌+◌, ◌*◌, ◌≤◌, Bool, true, false, cond, ◌&&◌, eqb, leb, ◌⊎◌, ℤ, pos, negsuc, nat_abs, Some, None, sym, refl, ap, ◌∙◌, ap₂, inl, inr, arith}
 use Rattle.std.proofs.lemmas.Int.{ints}
-use Rattle.std.proofs.lemmas.Bool.{cond-true, cond-false, both_ways, and_parts, and_left, and_right, and_from, eq-eqb, ne_eqb, eqb-true, le-leb, lt-leb, leb-true, cases_eq, cases_Bool}
-use Rattle.std.proofs.lemmas.Bool.Decides.{eqb_tells, leb_tells}
+use Rattle.std.proofs.lemmas.Bool.{cond-true, cond-false, both_ways, and_parts, and_from, eq-eqb, ne_eqb, eqb-true, le-leb, leb-true, cases_eq, cases_Bool}
+use Rattle.std.proofs.lemmas.Bool.Decides.{eqb_tells}
 use Rattle.flat.specs.Orbits.{indicator}
 use Rattle.flat.specs.Whole.{equal}
-use Rattle.turning.specs.Turn.{Turn, Lawful}
-use Rattle.laws.proofs.Equal.{tell, Tells}
-use Rattle.halfedges.specs.declared.halfedge.Halfedge.{Halfedge}
+use Rattle.turning.specs.Turn.{Lawful}
+use Rattle.laws.proofs.Equal.{tell}
 use Rattle.halfedges.specs.View.{View, none, row_of, written}
-use Rattle.halfedges.specs.Rows.{turn_of, row_point, points_of, strips_of, lines_in, home, Unlinked, Indexed, count, taken_row, used, same_place, row_in, slot_count, edge_count}
+use Rattle.halfedges.specs.Rows.{turn_of, row_point, strips_of, lines_in, home, Unlinked, Indexed, count, taken_row, used, row_in, slot_count, edge_count}
 use Rattle.halfedges.specs.Homes.{HomesAlone, with_strip}
 use Rattle.halfedges.proofs.Counted.{count_same, count_none}
 use Rattle.halfedges.proofs.EdgeCount.{edges_none, edges_more}

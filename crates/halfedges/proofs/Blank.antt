@@ -1,18 +1,15 @@
 -- Blank records mean line work with no edge. Assumes nothing.
-use Rattle.std.proofs.Common.{◌≡◌, ℕ, zero, suc, ◌+◌, ◌-◌, ◌*◌, ◌/◌, ◌%◌, ◌<◌, ◌≤◌, Bool, true, false, cond, not, ◌&&◌, eqb, leb, ◌⊎◌, List, [], ◌∷◌, length, get_or, ℤ, pos, sym, refl, ap, ◌∙◌, subst, inl, inr, arith}
+use Rattle.std.proofs.Common.{◌≡◌, ℕ, zero, suc, ◌-◌, ◌/◌, ◌%◌, ◌<◌, ◌≤◌, Bool, true, false, not, eqb, leb, ◌⊎◌, List, [], ◌∷◌, length, get_or, ℤ, pos, sym, refl, ap, ◌∙◌, subst, inl, inr, arith}
 use Rattle.std.proofs.lemmas.List.{get_or_past}
-use Rattle.std.proofs.lemmas.Bool.{both_ways, cond-false, cases_lt}
-use Rattle.std.proofs.lemmas.Bool.Decides.{leb_tells, eqb_tells}
-use Rattle.flat.specs.Orbits.{indicator}
-use Rattle.flat.specs.Whole.{equal}
+use Rattle.std.proofs.lemmas.Bool.{both_ways, cases_lt}
 use Rattle.turning.specs.Limits.{max_edge, slots}
 use Rattle.turning.specs.Turn.{Turn}
 use Rattle.chart.specs.Linework.{no_lines}
 use Rattle.laws.specs.Keeps.{Sound}
 use Rattle.laws.proofs.Equal.{tell}
 use Rattle.halfedges.specs.declared.halfedge.Halfedge.{Halfedge}
-use Rattle.halfedges.specs.View.{View, none, bare, key, is_name, entry_at, seen, row_of, Roomy}
-use Rattle.halfedges.specs.Rows.{turn_of, points_of, lines_in, home, Unlinked, Indexed, count, taken_row, used, same_place, row_in, slot_count, edge_count, Core, Blank}
+use Rattle.halfedges.specs.View.{View, none, key, is_name, entry_at, seen, Roomy}
+use Rattle.halfedges.specs.Rows.{turn_of, lines_in, Unlinked, Indexed, taken_row, used, same_place, row_in, slot_count, edge_count, Core, Blank}
 use Rattle.halfedges.specs.Nothing.{nothing_lines, nothing_sound}
 use Rattle.halfedges.proofs.Counted.{count_none, off_zero}
 use Rattle.halfedges.proofs.Views.{entry_in, entry_out, zero_row, row_is}

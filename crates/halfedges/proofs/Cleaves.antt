@@ -1,10 +1,9 @@
 -- The rows once an edge is cleft, in four changes of single names. Assumes nothing.
-use Rattle.std.proofs.Common.{◌≡◌, ℕ, suc, ◌+◌, ◌*◌, ◌<◌, ◌≤◌, Bool, true, false, List, ℤ, pos, neg_ℤ, Some, None, Option, sym, refl, ap, ◌∙◌, subst, ap₂, arith}
+use Rattle.std.proofs.Common.{◌≡◌, ℕ, suc, ◌+◌, ◌<◌, ◌≤◌, true, false, List, ℤ, pos, neg_ℤ, Some, None, sym, ap, ◌∙◌, subst, ap₂, arith}
 use Rattle.std.proofs.lemmas.Bool.{cond-false, both_ways}
 use Rattle.flat.specs.Orbits.{indicator}
 use Rattle.flat.specs.Whole.{equal}
 use Rattle.turning.specs.Limits.{max_edge, slots}
-use Rattle.turning.specs.Turn.{Turn}
 use Rattle.chart.specs.declared.point.Point.{Point}
 use Rattle.chart.specs.Changes.{at, put_after, alone, drawn, cleft}
 use Rattle.chart.specs.Linework.{Linework}
@@ -12,9 +11,9 @@ use Rattle.laws.specs.Keeps.{Sound}
 use Rattle.laws.specs.Rotations.{Rotation, Fresh, Cuts}
 use Rattle.laws.proofs.Equal.{tell}
 use Rattle.laws.proofs.Edges.{neg_same}
-use Rattle.laws.proofs.Cleft.{step₁, step₂, step₃, step₄, cleave_rotation₀, cleave_held, cleave_fresh₁, cleave_rotation₁, cleave_held₁, cleave_rotation₂, cleave_fresh₃, cleave_rotation₃, cleave_held₃, cleave_fresh₄, cleave_turn, cleave_points, cleave_sound}
+use Rattle.laws.proofs.Cleft.{step₂, step₃, cleave_rotation₀, cleave_held, cleave_fresh₁, cleave_rotation₁, cleave_held₁, cleave_rotation₂, cleave_fresh₃, cleave_rotation₃, cleave_held₃, cleave_fresh₄, cleave_turn, cleave_points, cleave_sound}
 use Rattle.halfedges.specs.declared.halfedge.Halfedge.{Halfedge}
-use Rattle.halfedges.specs.View.{View, seen, Roomy}
+use Rattle.halfedges.specs.View.{seen, Roomy}
 use Rattle.halfedges.specs.Rows.{turn_of, points_of, strips_of, lines_in, Unlinked, Indexed, Brought, unhooked, used, same_place, slot_count, Core}
 use Rattle.halfedges.proofs.Meaning.{unhooked_turn, unhooked_points, unhooked_strips, unhooked_indexed, unhooked_used, unhooked_counted, unhooked_unlinked}
 use Rattle.halfedges.proofs.Views.{zero_row}

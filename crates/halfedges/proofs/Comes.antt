@@ -1,17 +1,16 @@
 -- What one name's coming does to the meaning of rows. Assumes nothing.
-use Rattle.std.proofs.Common.{◌≡◌, ℕ, zero, suc, ◌+◌, ◌<◌, ◌≤◌, Bool, true, false, cond, not, ◌&&◌, eqb, leb, ◌⊎◌, ℤ, pos, Some, None, Option, sym, refl, ap, ◌∙◌, subst, inl, inr, arith}
-use Rattle.std.proofs.lemmas.Bool.{cond-true, cond-false, both_ways, leb-true, le-leb}
+use Rattle.std.proofs.Common.{◌≡◌, ℕ, suc, ◌+◌, ◌≤◌, true, false, cond, not, eqb, ℤ, pos, Some, None, Option, sym, refl, ap, ◌∙◌, inl, inr, arith}
+use Rattle.std.proofs.lemmas.Bool.{cond-true, cond-false, both_ways}
 use Rattle.std.proofs.lemmas.Bool.Decides.{eqb_tells, leb_tells}
 use Rattle.flat.specs.Orbits.{indicator}
 use Rattle.flat.specs.Whole.{equal}
-use Rattle.turning.specs.Turn.{Turn}
 use Rattle.chart.specs.declared.point.Point.{Point}
 use Rattle.chart.specs.Changes.{at, alone, put_after, put}
 use Rattle.laws.specs.Rotations.{Rotation, Fresh}
 use Rattle.laws.proofs.Equal.{tell, Tells}
 use Rattle.halfedges.specs.declared.halfedge.Halfedge.{Halfedge}
-use Rattle.halfedges.specs.View.{View, none, row_of, written, noted, led, trailed, with_follower, with_predecessor}
-use Rattle.halfedges.specs.Rows.{turn_of, row_point, points_of, strips_of, home, Unlinked, Indexed, fresh, settled, hooked, CornerHeld, taken_row, used, same_place, slot_count}
+use Rattle.halfedges.specs.View.{View, row_of, led, trailed, with_follower, with_predecessor}
+use Rattle.halfedges.specs.Rows.{turn_of, row_point, points_of, strips_of, Unlinked, Indexed, fresh, settled, hooked, CornerHeld, taken_row, used, same_place, slot_count}
 use Rattle.halfedges.proofs.Counted.{count_more, slot_gain}
 use Rattle.halfedges.proofs.Meaning.{written_rows, written_indexed, written_unlinked, home_not}
 

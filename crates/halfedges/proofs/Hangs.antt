@@ -1,5 +1,5 @@
 -- The rows once both names of an edge are in. Assumes nothing.
-use Rattle.std.proofs.Common.{◌≡◌, ℕ, suc, ◌+◌, ◌<◌, ◌≤◌, Bool, true, false, List, ℤ, pos, neg_ℤ, Some, None, Option, sym, refl, ap, ◌∙◌, subst, subst₂, arith}
+use Rattle.std.proofs.Common.{◌≡◌, ℕ, suc, ◌+◌, ◌<◌, ◌≤◌, List, ℤ, pos, neg_ℤ, Some, None, Option, sym, ap, ◌∙◌, subst, subst₂, arith}
 use Rattle.flat.specs.Orbits.{indicator}
 use Rattle.turning.specs.Limits.{max_edge, slots}
 use Rattle.chart.specs.declared.point.Point.{Point}

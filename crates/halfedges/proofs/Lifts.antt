@@ -1,5 +1,5 @@
 -- The rows once both names of an edge are out. Assumes nothing.
-use Rattle.std.proofs.Common.{◌≡◌, ℕ, suc, ◌+◌, Bool, true, false, List, ℤ, pos, neg_ℤ, Some, None, Option, sym, refl, ap, ◌∙◌, subst, ap₂, arith}
+use Rattle.std.proofs.Common.{◌≡◌, ℕ, suc, ◌+◌, true, false, List, ℤ, pos, neg_ℤ, None, sym, ap, ◌∙◌, subst, ap₂, arith}
 use Rattle.std.proofs.lemmas.Bool.{cond-false}
 use Rattle.flat.specs.Orbits.{indicator}
 use Rattle.flat.specs.Whole.{equal}
@@ -10,7 +10,7 @@ use Rattle.laws.specs.Rotations.{Rotation}
 use Rattle.laws.proofs.Equal.{tell}
 use Rattle.laws.proofs.Edges.{rotation_of, held_some, neg_apart, lift_rotation₁, lift_here₁, lift_sound}
 use Rattle.halfedges.specs.declared.halfedge.Halfedge.{Halfedge}
-use Rattle.halfedges.specs.View.{View, seen, Roomy}
+use Rattle.halfedges.specs.View.{seen, Roomy}
 use Rattle.halfedges.specs.Rows.{turn_of, points_of, strips_of, lines_in, Unlinked, Indexed, unhooked, used, same_place, slot_count, Core}
 use Rattle.halfedges.proofs.Meaning.{unhooked_turn, unhooked_points, unhooked_strips, unhooked_indexed, unhooked_used, unhooked_counted, unhooked_unlinked}
 use Rattle.halfedges.proofs.Views.{zero_row}

@@ -1,17 +1,14 @@
 -- What the write of a held name's row, and one name's going, do to the meaning of rows. Assumes nothing.
-use Rattle.std.proofs.Common.{◌≡◌, ℕ, zero, suc, ◌+◌, ◌<◌, ◌≤◌, Bool, true, false, cond, not, ◌&&◌, eqb, leb, ◌⊎◌, ℤ, pos, Some, None, Option, sym, refl, ap, ◌∙◌, subst, inl, inr, arith}
-use Rattle.std.proofs.lemmas.Bool.{cond-true, cond-false, both_ways, leb-true, le-leb}
+use Rattle.std.proofs.Common.{◌≡◌, ℕ, suc, ◌+◌, ◌≤◌, true, false, cond, eqb, ◌⊎◌, ℤ, pos, Some, None, sym, refl, ap, ◌∙◌, subst, inl, inr, arith}
+use Rattle.std.proofs.lemmas.Bool.{cond-true, cond-false, both_ways, leb-true}
 use Rattle.std.proofs.lemmas.Bool.Decides.{eqb_tells, leb_tells}
 use Rattle.flat.specs.Orbits.{indicator}
-use Rattle.flat.specs.Whole.{equal}
-use Rattle.turning.specs.Turn.{Turn}
-use Rattle.chart.specs.declared.point.Point.{Point}
 use Rattle.chart.specs.Changes.{at, drawn}
 use Rattle.laws.specs.Rotations.{Rotation}
 use Rattle.laws.proofs.Equal.{tell, Tells}
 use Rattle.halfedges.specs.declared.halfedge.Halfedge.{Halfedge}
-use Rattle.halfedges.specs.View.{View, none, row_of, written, noted, led, trailed, with_follower, with_predecessor}
-use Rattle.halfedges.specs.Rows.{turn_of, row_point, points_of, strips_of, home, Unlinked, Indexed, unhooked, taken_row, used, same_place, row_in, slot_count}
+use Rattle.halfedges.specs.View.{View, none, row_of, written, led, trailed, with_follower, with_predecessor}
+use Rattle.halfedges.specs.Rows.{turn_of, row_point, points_of, strips_of, home, Unlinked, Indexed, unhooked, taken_row, used, same_place, slot_count}
 use Rattle.halfedges.proofs.Counted.{count_more, slot_loss}
 
 pub held_slot : (v : View) (h : ℤ) → (turn_of v).held h ≡ true → 1 ≤ v.entry h

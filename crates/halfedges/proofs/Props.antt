@@ -1,5 +1,5 @@
 -- What holds of a memory has one proof at most, so that it comes out of a truncation. Assumes nothing.
-use Rattle.std.proofs.Common.{◌≡◌, ℕ, List, ℤ}
+use Rattle.std.proofs.Common.{ℕ, List}
 use mathlib.Core.Bool.{Bool-set}
 use mathlib.Core.HLevel.{hedberg}
 use native.Mathlib.Bridge.{le_prop}

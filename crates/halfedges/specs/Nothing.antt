@@ -1,9 +1,8 @@
 -- A memory in whose index nothing stands means no line work. Assumes nothing.
-use Rattle.std.specs.Prelude.{◌≡◌, ℕ, ◌≤◌, Bool, true, false, cond, not, ◌&&◌, List, length, ℤ, pos, Some, None, Option, ◌==◌, nat_le, refl}
-use Rattle.std.proofs.Common.{sym, ap, subst, ◌∙◌}
+use Rattle.std.specs.Prelude.{◌≡◌, ℕ, false, not, ◌&&◌, List, length, ℤ, None, ◌==◌, nat_le, refl}
+use Rattle.std.proofs.Common.{ap, ◌∙◌}
 use Rattle.std.proofs.lemmas.Bool.{cond-false, both_ways}
-use Rattle.turning.specs.Turn.{Turn, Lawful, no_turn}
-use Rattle.chart.specs.Linework.{Linework, Placed, no_lines}
+use Rattle.chart.specs.Linework.{no_lines}
 use Rattle.laws.specs.Keeps.{Sound}
 use Rattle.halfedges.specs.declared.halfedge.Halfedge.{Halfedge}
 use Rattle.halfedges.specs.View.{View, none, key, is_name, entry_at, row_of, row_at, view}

@@ -1,6 +1,6 @@
 -- The lent records seen as two maps: from a name to its slot, and from a slot to its row. Slots are counted from 1, and 0 is no slot.
 -- Assumes nothing.
-use Rattle.std.specs.Prelude.{◌≡◌, ℕ, zero, suc, ◌+◌, ◌-◌, ◌*◌, ◌/◌, ◌%◌, ◌<◌, ◌≤◌, Bool, true, false, cond, ◌&&◌, List, [], ◌∷◌, length, get_or, ℤ, pos, negsuc, neg_ℤ, ◌==◌, int_le, nat_le, slice_index, slice_index_or}
+use Rattle.std.specs.Prelude.{◌≡◌, ℕ, zero, suc, ◌+◌, ◌-◌, ◌*◌, ◌/◌, ◌%◌, ◌<◌, ◌≤◌, Bool, cond, ◌&&◌, List, [], length, get_or, ℤ, pos, negsuc, neg_ℤ, ◌==◌, int_le, nat_le, slice_index, slice_index_or}
 use Rattle.turning.specs.Limits.{max_edge, slots}
 use Rattle.chart.specs.Changes.{at}
 use Rattle.halfedges.specs.declared.halfedge.Halfedge.{Halfedge}

@@ -1,5 +1,5 @@
 -- The verdict of a call that reads, from its parts. Assumes nothing.
-use Rattle.std.proofs.Common.{◌≡◌, ℕ, Bool, true, false, cond, List, [], ◌∷◌, length, ℤ, is_err, Some, None, Ok, Err, Result, sym, refl, ap, ◌∙◌, arith}
+use Rattle.std.proofs.Common.{◌≡◌, ℕ, Bool, true, false, List, [], ◌∷◌, length, ℤ, is_err, Some, None, Ok, Err, Result, sym, refl, ap, ◌∙◌, arith}
 use Rattle.std.proofs.lemmas.Bool.{cond-true, both_ways}
 use Rattle.turning.specs.Limits.{max_edge, marks_for, line_for}
 use Rattle.turning.specs.Refusals.{asked}

@@ -1,5 +1,5 @@
 -- Entries that tell line work which is lawful and placed. Assumes nothing.
-use Rattle.std.proofs.Common.{◌≡◌, true, false, List, get_or, ℤ, sym, ap, ◌∙◌}
+use Rattle.std.proofs.Common.{◌≡◌, true, false, List, get_or, ℤ}
 use mathlib.Core.HLevel.{hedberg}
 use mathlib.Core.Logic.{∥∥₁_elim}
 use native.Mathlib.Decide.{ℕ_discrete}

@@ -1,11 +1,9 @@
 -- Two runs of the same edits agree. Assumes nothing.
-use Rattle.std.proofs.Common.{◌≡◌, ℕ, Bool, true, false, cond, List, [], ◌∷◌, ◌++◌, map, ℤ, Ok, Err, sym, refl, ap, ◌∙◌, subst, ap₂}
+use Rattle.std.proofs.Common.{◌≡◌, ℕ, Bool, true, false, cond, List, [], ◌∷◌, ◌++◌, Ok, Err, sym, refl, ap, ◌∙◌, subst, ap₂}
 use Rattle.turning.specs.Limits.{max_edge}
-use Rattle.turning.specs.declared.refusal.Refusal.{Refusal}
 use Rattle.turning.specs.declared.refusal.Refusal.TheVariants.{ShortBuffers, NoRoom}
-use Rattle.turning.specs.Refusals.{Questions, Outcome, granted, outcome}
+use Rattle.turning.specs.Refusals.{Questions, Outcome, outcome}
 use Rattle.search.specs.Buffers.{enough}
-use Rattle.chart.specs.declared.point.Point.{Point}
 use Rattle.chart.specs.Linework.{Linework}
 use Rattle.chart.specs.Stores.{Meaning}
 use Rattle.edits.specs.Edits.{Edit, starts, sprouts, joins, splits, removes, questions, join_questions, start_of, made, Changed}

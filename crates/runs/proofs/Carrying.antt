@@ -1,16 +1,15 @@
 -- One call carried out, from what its edit ensures. Assumes nothing.
-use Rattle.std.proofs.Common.{◌≡◌, ℕ, ◌↔◌, List, ℤ, Ok, Err, sym, refl, ap, ◌∙◌, subst, arith}
+use Rattle.std.proofs.Common.{◌≡◌, ℕ, List, ℤ, Ok, Err, sym, ap, ◌∙◌, subst, arith}
 use Rattle.turning.specs.Limits.{max_edge}
 use Rattle.turning.specs.Counts.{Flat}
 use Rattle.turning.specs.declared.refusal.Refusal.{Refusal}
 use Rattle.turning.specs.declared.refusal.Refusal.TheVariants.{LoopsOfOnePiece}
-use Rattle.turning.specs.Refusals.{Outcome, outcome}
-use Rattle.chart.specs.Linework.{Linework}
+use Rattle.turning.specs.Refusals.{Outcome}
 use Rattle.chart.specs.Stores.{Meaning}
-use Rattle.edits.specs.Edits.{Edit, starts, sprouts, joins, splits, removes, questions, made, Changed, Done, KeepsFlat, Judged}
+use Rattle.edits.specs.Edits.{Edit, starts, sprouts, joins, splits, removes, made, Changed, Done, KeepsFlat, Judged}
 use Rattle.strips.specs.Seams.{Bordered}
 use Rattle.runs.specs.declared.calls.Answer.{Answer}
-use Rattle.runs.specs.declared.calls.Answer.TheVariants.{Done as done, Refused}
+use Rattle.runs.specs.declared.calls.Answer.TheVariants.{Refused}
 use Rattle.runs.specs.declared.sheets.SheetCall.{SheetCall}
 use Rattle.runs.specs.declared.sheets.SheetCall.TheVariants.{Edit as AnEdit, Cut, Knit}
 use Rattle.runs.specs.Runs.{told, left, Carried, FlatAt}

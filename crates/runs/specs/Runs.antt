@@ -1,5 +1,5 @@
 -- Runs of edits over any store, and what is promised of them. Assumes nothing.
-use Rattle.std.specs.Prelude.{◌≡◌, ℕ, List, [], ◌∷◌, ℤ, pos, Ok, Err, vec_items}
+use Rattle.std.specs.Prelude.{◌≡◌, ℕ, pos, Ok, Err, vec_items}
 use Rattle.turning.specs.Limits.{max_edge, marks_for, line_for}
 use Rattle.turning.specs.declared.refusal.Refusal.TheVariants.{LoopsOfOnePiece}
 use Rattle.turning.specs.Refusals.{Outcome, outcome}

@@ -1,5 +1,5 @@
 -- Runs over a stripped sheet, with cuts and knits among the calls. Assumes nothing.
-use Rattle.std.specs.Prelude.{◌≡◌, ℤ}
+use Rattle.std.specs.Prelude.{◌≡◌}
 use Rattle.turning.specs.Limits.{max_edge}
 use Rattle.turning.specs.Refusals.{Outcome}
 use Rattle.chart.specs.Stores.{Meaning}

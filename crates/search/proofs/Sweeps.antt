@@ -11,7 +11,7 @@ use Rattle.flat.proofs.Walks.{walk_back}
 use Rattle.flat.proofs.Whole.{equal_is}
 use Rattle.turning.specs.Turn.{Turn, Lawful}
 use Rattle.turning.specs.Counts.{holding}
-use Rattle.search.specs.Marks.{marked, Clean, Spreads, new, Visited}
+use Rattle.search.specs.Marks.{marked, Clean, Spreads, Visited}
 use Rattle.turning.proofs.Listed.{Named, true_T, in_holding, holding_held, held_named}
 use Rattle.search.proofs.Marking.{unmarked_clean}
 

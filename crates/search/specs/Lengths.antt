@@ -1,9 +1,7 @@
 -- How far a name is from another, and how many lie together.
 -- Assumes nothing.
-use Rattle.std.specs.Prelude.{◌≡◌, ℕ, ◌≤◌, [], ◌∷◌, length, ℤ, Some, None, Option}
-use Rattle.flat.specs.Orbits.{Reach, filter, iterate}
-use Rattle.turning.specs.Turn.{Turn}
-use Rattle.turning.specs.Counts.{holding, same_round, same_loop}
+use Rattle.std.specs.Prelude.{◌≡◌, ℕ, ◌≤◌, [], ◌∷◌, ℤ, Some, None, Option}
+use Rattle.flat.specs.Orbits.{Reach, iterate}
 
 -- x is where f leads from h in n steps, with no return to h on the way
 pub record Walked (f : ℤ → ℤ) (h x : ℤ) (n : ℕ) : Type 0 where

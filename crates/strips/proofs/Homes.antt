@@ -1,5 +1,5 @@
 -- The home of a halfedge by the strips of its two ends. Assumes nothing.
-use Rattle.std.proofs.Common.{◌≡◌, ℕ, zero, suc, ◌≤◌, Bool, true, false, cond, ◌&&◌, leb, List, [], ◌∷◌, ℤ, pos, negsuc, neg_ℤ, nat_abs, Some, None, Ok, Err, Option, Result, sym, refl, ap, ◌∙◌, ap₂, arith}
+use Rattle.std.proofs.Common.{◌≡◌, ℕ, zero, suc, ◌≤◌, Bool, true, false, cond, ◌&&◌, leb, List, [], ◌∷◌, ℤ, pos, negsuc, neg_ℤ, Some, None, Ok, Err, Option, Result, sym, ap, ◌∙◌, ap₂, arith}
 use lib.Signed.{lt_z}
 use Rattle.std.proofs.lemmas.Int.{ints}
 use Rattle.std.proofs.lemmas.Bool.{both_ways, cond-true}
@@ -13,8 +13,8 @@ use Rattle.chart.specs.Linework.{Linework}
 use Rattle.halfedges.specs.View.{View, row_of}
 use Rattle.halfedges.specs.Rows.{turn_of, points_of, row_point}
 use Rattle.strips.specs.declared.home.Home.{Home}
-use Rattle.strips.specs.Borders.{strip_count, strip_of, apart, x_of, home_strip, first_strip, last_strip, runs_through}
-use Rattle.strips.specs.Answers.{in_strip, home_of, told_home}
+use Rattle.strips.specs.Borders.{strip_count, strip_of, apart, x_of, home_strip, first_strip, last_strip}
+use Rattle.strips.specs.Answers.{home_of, told_home}
 use Rattle.strips.proofs.Cutting.{strip_low, strip_high}
 
 -- a strip between the first and the last is there

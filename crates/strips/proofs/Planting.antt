@@ -1,12 +1,11 @@
 -- A memory of home rows gets its external rows, edge by edge. Assumes nothing.
-use Rattle.std.proofs.Common.{◌≡◌, ℕ, zero, suc, ◌+◌, ◌-◌, ◌*◌, ◌<◌, ◌≤◌, Bool, true, false, cond, not, ◌&&◌, eqb, ltb, leb, ◌⊎◌, List, ℤ, pos, negsuc, neg_ℤ, nat_abs, sym, refl, ap, ◌∙◌, subst, ap₂, inl, inr, arith}
+use Rattle.std.proofs.Common.{◌≡◌, ℕ, zero, suc, ◌+◌, ◌-◌, ◌*◌, ◌<◌, ◌≤◌, Bool, true, false, cond, ◌&&◌, eqb, ltb, leb, ◌⊎◌, List, ℤ, pos, negsuc, nat_abs, sym, refl, ap, ◌∙◌, subst, ap₂, inl, inr, arith}
 use Rattle.std.proofs.lemmas.Int.{ints}
 use Rattle.std.proofs.lemmas.Bool.{cond-true, cond-false, both_ways, and_left, le-leb, lt-leb, cases_eq, cases_Bool}
 use Rattle.std.proofs.lemmas.Bool.Decides.{eqb_tells, leb_tells}
 use Rattle.flat.specs.Orbits.{indicator}
 use Rattle.flat.specs.Whole.{equal}
 use Rattle.turning.specs.Limits.{max_edge}
-use Rattle.turning.specs.Turn.{Turn, Lawful}
 use Rattle.chart.specs.Linework.{Linework}
 use Rattle.laws.specs.Keeps.{Sound}
 use Rattle.laws.proofs.Equal.{tell}

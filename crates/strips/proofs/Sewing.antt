@@ -1,5 +1,5 @@
 -- A cut and a knit as a whole, once their questions are asked. Assumes nothing.
-use Rattle.std.proofs.Common.{◌≡◌, ℕ, suc, ◌+◌, ◌*◌, ◌<◌, ◌≤◌, Bool, true, false, cond, not, leb, List, [], ◌∷◌, length, ℤ, Ok, Err, sym, refl, ap, ◌∙◌, subst, ap₂, arith}
+use Rattle.std.proofs.Common.{◌≡◌, ℕ, suc, ◌+◌, ◌*◌, ◌<◌, ◌≤◌, Bool, true, false, cond, not, leb, List, length, ℤ, Ok, Err, sym, refl, ap, ◌∙◌, subst, ap₂, arith}
 use Rattle.std.proofs.lemmas.Bool.{cond-true, cond-false, le-leb, not-true, not_from_false}
 use Rattle.std.proofs.lemmas.Bool.Decides.{leb_tells}
 use Rattle.turning.specs.Limits.{max_edge, max_strips, slots}
@@ -9,13 +9,12 @@ use Rattle.turning.specs.Refusals.{Outcome, granted, outcome}
 use Rattle.chart.specs.declared.point.Point.{Point}
 use Rattle.chart.specs.Points.{within}
 use Rattle.chart.specs.Linework.{Linework, Placed}
-use Rattle.chart.specs.Stores.{Frame, Meaning}
 use Rattle.halfedges.specs.declared.halfedge.Halfedge.{Halfedge}
 use Rattle.halfedges.specs.View.{seen}
 use Rattle.halfedges.specs.Rows.{lines_in}
 use Rattle.strips.specs.Borders.{strip_count, slots_taken, fits_in}
-use Rattle.strips.specs.Seams.{with_border, without_border, is_border, crossings, cut_questions, knit_questions, room_in, bordered, Bordered, Cuts, Knits, CutThenKnit, RoomsAlike}
-use Rattle.strips.specs.Sheets.{room_of, frame_of, sheet_of}
+use Rattle.strips.specs.Seams.{with_border, without_border, is_border, crossings, cut_questions, bordered, Bordered, Cuts, Knits, CutThenKnit, RoomsAlike}
+use Rattle.strips.specs.Sheets.{room_of, sheet_of}
 use Rattle.strips.proofs.Stitching.{taken_with, without_with, border_with}
 
 -- the same line work and the same slots, in other borders

@@ -13,7 +13,6 @@ use Rattle.chart.specs.declared.point.End.{End}
 use Rattle.chart.specs.Changes.{western, eastern, may_hang, may_cleave}
 use Rattle.chart.specs.Points.{west}
 use Rattle.chart.specs.Linework.{no_lines}
-use Rattle.chart.specs.Stores.{Frame}
 use Rattle.laws.specs.Keeps.{Sound}
 use Rattle.laws.specs.Rotations.{Ends, Cuts}
 use Rattle.laws.proofs.Cleft.{cleave_cuts}

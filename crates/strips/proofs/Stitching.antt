@@ -1,19 +1,18 @@
 -- One border more or less: the strips, the slots, and the borders' order. Assumes nothing.
-use Rattle.std.proofs.Common.{◌≡◌, ℕ, zero, suc, ◌+◌, ◌-◌, ◌*◌, ◌<◌, ◌≤◌, Bool, true, false, cond, not, ◌&&◌, ◌||◌, eqb, ltb, leb, ◌⊎◌, List, [], ◌∷◌, length, get_or, ℤ, pos, negsuc, neg_ℤ, ◌≤ℤ◌, ◌<ℤ◌, Some, None, Option, sym, refl, ap, ◌∙◌, subst, ap₂, inl, inr, arith}
+use Rattle.std.proofs.Common.{◌≡◌, ℕ, zero, suc, ◌+◌, ◌*◌, ◌≤◌, Bool, true, false, cond, not, ◌&&◌, ◌||◌, List, [], ◌∷◌, length, ℤ, pos, negsuc, neg_ℤ, ◌≤ℤ◌, Some, None, Option, sym, refl, ap, ◌∙◌, subst, ap₂, arith}
 use lib.Signed.{lt_z}
 use Rattle.std.proofs.lemmas.Int.{ints}
-use Rattle.std.proofs.lemmas.Bool.{cond-true, cond-false, and_parts, and_from, or_parts, both_ways}
+use Rattle.std.proofs.lemmas.Bool.{cond-true, cond-false, and_from, or_parts, both_ways}
 use Rattle.flat.specs.Orbits.{filter, contains, indicator}
 use Rattle.flat.specs.Whole.{equal}
 use Rattle.turning.specs.Limits.{max_coordinate}
-use Rattle.turning.specs.Turn.{Turn}
 use Rattle.chart.specs.declared.point.Point.{Point}
 use Rattle.chart.specs.Points.{within, west, told_west}
 use Rattle.chart.specs.Linework.{Linework, Placed}
 use Rattle.laws.proofs.Equal.{tell}
 use Rattle.strips.specs.Borders.{rise_after, rising, strip_of, apart, x_of, slots_of, slots_taken}
 use Rattle.strips.specs.Seams.{with_border, without_border, is_border, crosses, crossings}
-use Rattle.strips.proofs.Cutting.{strip_none, strip_west, strip_east, strip_low, strip_monotone, rise_parts, rise_first}
+use Rattle.strips.proofs.Cutting.{strip_none, strip_west, strip_east, strip_monotone, rise_parts, rise_first}
 
 -- ---- the list, case by case
 pub with_here : (x b : ℤ) (bs : List ℤ) → lt_z x b ≡ true → with_border x (b ∷ bs) ≡ x ∷ (b ∷ bs)

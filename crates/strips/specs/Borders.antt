@@ -1,6 +1,6 @@
 -- Borders, the strips that they cut a sheet into, and the strips that an edge runs through. Strips count from 1, from west to east.
 -- Assumes nothing.
-use Rattle.std.specs.Prelude.{ℕ, zero, suc, ◌+◌, ◌-◌, ◌*◌, Bool, true, false, cond, ◌&&◌, List, [], ◌∷◌, length, ℤ, pos, neg_ℤ, Some, None, Option, int_lt, nat_le, unsigned_abs}
+use Rattle.std.specs.Prelude.{ℕ, zero, suc, ◌+◌, ◌-◌, ◌*◌, Bool, true, cond, ◌&&◌, List, [], ◌∷◌, length, ℤ, pos, neg_ℤ, Some, None, Option, int_lt, nat_le, unsigned_abs}
 use Rattle.chart.specs.declared.point.Point.{Point}
 use Rattle.chart.specs.Points.{within}
 use Rattle.chart.specs.Linework.{Linework}

@@ -1,5 +1,5 @@
 -- Borders put in and taken out, what a cut and a knit ask, and what they leave. Assumes nothing.
-use Rattle.std.specs.Prelude.{◌≡◌, ℕ, zero, suc, ◌+◌, ◌*◌, ◌≤◌, Bool, true, false, cond, not, ◌&&◌, List, [], ◌∷◌, length, ℤ, pos, neg_ℤ, Ok, Err, int_lt, nat_le}
+use Rattle.std.specs.Prelude.{◌≡◌, ℕ, zero, suc, ◌+◌, ◌*◌, ◌≤◌, Bool, cond, not, ◌&&◌, List, [], ◌∷◌, length, ℤ, pos, neg_ℤ, Ok, Err, int_lt, nat_le}
 use Rattle.flat.specs.Orbits.{filter, contains, indicator}
 use Rattle.flat.specs.Whole.{equal}
 use Rattle.turning.specs.Limits.{max_edge, max_strips, slots}

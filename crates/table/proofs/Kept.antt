@@ -1,16 +1,14 @@
 -- What a table's memory keeps through its changes. Assumes nothing.
-use Rattle.std.proofs.Common.{◌≡◌, ℕ, suc, ◌+◌, ◌*◌, ◌<◌, ◌≤◌, Bool, true, false, cond, leb, List, [], length, ℤ, pos, neg_ℤ, Some, None, Option, sym, refl, ap, ◌∙◌, subst, subst₂, arith}
+use Rattle.std.proofs.Common.{◌≡◌, ℕ, suc, ◌+◌, ◌*◌, ◌≤◌, Bool, true, false, cond, leb, List, [], length, ℤ, pos, neg_ℤ, Some, None, Option, sym, refl, ap, ◌∙◌, subst, subst₂, arith}
 use mathlib.Core.HLevel.{hedberg}
 use mathlib.Core.Logic.{∥∥₁_elim}
 use native.Mathlib.Decide.{ℕ_discrete}
-use Rattle.std.proofs.lemmas.Bool.Decides.{leb_tells}
 use Rattle.std.proofs.lemmas.Int.{ints}
 use Rattle.std.proofs.lemmas.Bool.{leb-true, le-leb, cond-true, cond-false, both_ways, and_parts}
 use Rattle.turning.specs.Limits.{max_edge, slots}
 use Rattle.chart.specs.declared.point.Point.{Point}
 use Rattle.chart.specs.declared.point.End.{End}
 use Rattle.chart.specs.Changes.{at, put, western, eastern, may_hang, lifted, may_cleave, cleft}
-use Rattle.chart.specs.Stores.{Frame}
 use Rattle.laws.specs.Keeps.{Sound}
 use Rattle.laws.specs.Rotations.{Ends, Cuts}
 use Rattle.laws.proofs.Cleft.{cleave_cuts}

@@ -1,11 +1,11 @@
 -- What always holds of a table's memory, and which pairs of points fit. Assumes nothing.
 use Rattle.std.specs.Prelude.{◌≡◌, ℕ, ◌+◌, ◌*◌, ◌≤◌, Bool, true, false, cond, List, [], length, nat_le, refl}
-use Rattle.std.proofs.Common.{sym, ap, subst}
+use Rattle.std.proofs.Common.{sym, subst}
 use Rattle.std.proofs.Math.Logic.{∥∥₁_elim}
 use Rattle.std.proofs.lemmas.Bool.{leb-true}
 use Rattle.turning.specs.Limits.{max_edge, slots}
 use Rattle.turning.specs.Props.{lawful_prop}
-use Rattle.turning.specs.Turn.{Turn, Lawful}
+use Rattle.turning.specs.Turn.{Lawful}
 use Rattle.chart.specs.declared.point.Point.{Point}
 use Rattle.chart.specs.Stores.{Frame}
 use Rattle.halfedges.specs.declared.halfedge.Halfedge.{Halfedge}

@@ -15,7 +15,7 @@ use Rattle.flat.proofs.Whole.{equal_is}
 use Rattle.turning.specs.Turn.{Turn, Lawful, side}
 use Rattle.turning.specs.Sides.{side_lawful}
 use Rattle.turning.specs.Counts.{holding, listed, next, SameRound, SameLoop, SamePiece, same_piece, rounds, edges, loops, pieces}
-use Rattle.turning.specs.Words.{TestsTell, Sharing, Piece, SameEdge, OneOfEach, Counted}
+use Rattle.turning.specs.Words.{TestsTell, Sharing, Piece, SameEdge, Counted}
 use Rattle.turning.proofs.Listed.{in_holding, holding_held, listed_lawful}
 use Rattle.turning.proofs.Tests.{follower_fair, follower_perm, next_fair, piece_fair, round_walk, loop_walk, piece_walk, piece_held, holding_side, loops_listed}
 

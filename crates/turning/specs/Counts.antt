@@ -1,7 +1,7 @@
 -- What is counted over a turning, from its links alone.
 -- Assumes nothing.
-use Rattle.std.specs.Prelude.{◌≡◌, ℕ, zero, suc, ◌+◌, ◌*◌, Bool, true, false, cond, List, [], ◌∷◌, ◌++◌, length, ℤ, pos, negsuc, neg_ℤ}
-use Rattle.flat.specs.Orbits.{Reach, linked, orbits, filter}
+use Rattle.std.specs.Prelude.{◌≡◌, ℕ, zero, suc, ◌+◌, ◌*◌, Bool, List, [], ◌∷◌, ◌++◌, length, ℤ, pos, negsuc, neg_ℤ}
+use Rattle.flat.specs.Orbits.{Reach, linked, filter}
 use Rattle.flat.specs.Turnings.{Turning, turning}
 use Rattle.flat.specs.Turnings as figure
 use Rattle.flat.specs.Whole.{equal}

@@ -1,6 +1,6 @@
 -- What a turning means: the names that it holds, and for each the next name clockwise about its start, and the one before.
 -- Assumes nothing.
-use Rattle.std.specs.Prelude.{◌≡◌, ℕ, Bool, true, false, cond, ℤ, pos, negsuc, neg_ℤ, ◌≤ℤ◌}
+use Rattle.std.specs.Prelude.{◌≡◌, ℕ, Bool, true, false, cond, ℤ, pos, neg_ℤ, ◌≤ℤ◌}
 
 -- which names are held, and for each name its follower and its predecessor
 pub record Turn : Type 0 where

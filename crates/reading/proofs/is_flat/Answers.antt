@@ -1,4 +1,4 @@
-use Rattle.std.proofs.Common.{◌≡◌, ◌+◌, ◌*◌, true, eqb, ap, ◌∙◌, arith}
+use Rattle.std.proofs.Common.{◌≡◌, ◌+◌, ◌*◌, true, eqb, ap, arith}
 use Rattle.turning.specs.Limits.{max_edge}
 use Rattle.search.specs.Buffers.{enough}
 use Rattle.search.proofs.Buffers.{enough_both}

@@ -1,4 +1,4 @@
-use Rattle.std.proofs.Common.{◌≡◌, ◌∙◌, w16}
+use Rattle.std.proofs.Common.{◌∙◌, w16}
 use Rattle.std.proofs.lemmas.Int.{to_z-of_z}
 use Rattle.turning.specs.Limits.{max_edge}
 use Rattle.turning.specs.Turn.{side}

@@ -1,4 +1,4 @@
-use Rattle.std.proofs.Common.{◌≡◌, sym, refl, ap, ◌∙◌, subst₂, w16, rules}
+use Rattle.std.proofs.Common.{sym, refl, subst₂, w16, rules}
 use Rattle.std.proofs.lemmas.Int.{to_z-of_z}
 use Rattle.turning.specs.Limits.{max_edge}
 use Rattle.chart.specs.Stores.{meant, Hangs}

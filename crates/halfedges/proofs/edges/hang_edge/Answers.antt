@@ -1,4 +1,4 @@
-use Rattle.std.proofs.Common.{◌≡◌, pos, neg_ℤ, sym, ap, ◌∙◌, subst}
+use Rattle.std.proofs.Common.{pos, neg_ℤ, sym, subst}
 use Rattle.turning.specs.Limits.{max_edge, slots}
 use Rattle.laws.specs.Rotations.{Fresh}
 use Rattle.halfedges.specs.View.{seen}

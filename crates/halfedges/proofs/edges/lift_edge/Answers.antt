@@ -1,4 +1,4 @@
-use Rattle.std.proofs.Common.{◌≡◌, pos, neg_ℤ, sym, ap, ◌∙◌}
+use Rattle.std.proofs.Common.{◌≡◌, pos, neg_ℤ, ap, ◌∙◌}
 use Rattle.halfedges.specs.View.{seen}
 use Rattle.halfedges.specs.Rows.{turn_of, unhooked}
 use Rattle.halfedges.proofs.Lifts.{rotation₀, indexed₁, rotation₁, here₁, lift_lines, lift_core, lift_used, lift_strips, lift_counted, lift_unlinked}

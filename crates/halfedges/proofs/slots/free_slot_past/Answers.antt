@@ -1,10 +1,8 @@
-use Rattle.std.proofs.Common.{◌≡◌, ℕ, suc, ◌+◌, ◌-◌, ◌<◌, ◌≤◌, true, not, get_or, ℤ, pos, sym, refl, ap, ◌∙◌, subst, add-one, arith, w16, SFits, of_z, rules, below_none, below_more}
-use Rattle.flat.specs.Whole.{equal}
+use Rattle.std.proofs.Common.{◌≡◌, suc, get_or, pos, sym, ap, ◌∙◌, add-one, arith, w16, SFits, of_z, rules, below_more}
 use Rattle.turning.proofs.Names.{same_name}
 use Rattle.turning.specs.Limits.{max_edge, slots}
 use Rattle.laws.proofs.Equal.{tell}
 use Rattle.halfedges.specs.View.{seen, none}
-use Rattle.halfedges.specs.Rows.{taken_row}
 use Rattle.halfedges.proofs.Views.{row_is}
 use Rattle.halfedges.proofs.Counted.{full}
 use Rattle.halfedges.proofs.slots.free_slot_past.Goals as goal

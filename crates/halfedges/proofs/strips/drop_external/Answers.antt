@@ -1,4 +1,4 @@
-use Rattle.std.proofs.Common.{◌≡◌, ℕ, suc, ◌+◌, ◌-◌, ◌<◌, ◌≤◌, Bool, true, false, cond, eqb, ◌⊎◌, List, get_or, pos, sym, refl, ap, ◌∙◌, subst, inl, inr, add-one, arith, w16, SFits, of_z, rules, below_more}
+use Rattle.std.proofs.Common.{◌≡◌, ℕ, suc, ◌+◌, ◌-◌, ◌<◌, true, false, eqb, List, get_or, pos, sym, refl, ap, ◌∙◌, subst, add-one, arith, w16, SFits, of_z, rules, below_more}
 use Rattle.std.proofs.lemmas.Bool.{cond-true, cond-false, eq-eqb, ne_eqb, both_ways}
 use Rattle.turning.specs.Limits.{max_edge, slots}
 use Rattle.turning.proofs.Names.{same_name}

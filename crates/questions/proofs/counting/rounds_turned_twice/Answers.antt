@@ -1,4 +1,4 @@
-use Rattle.std.proofs.Common.{◌≡◌, [], ◌∷◌, ap, ◌∙◌, rules}
+use Rattle.std.proofs.Common.{[], ◌∷◌, ap, ◌∙◌, rules}
 use Rattle.turning.specs.Limits.{max_edge}
 use Rattle.turning.specs.Refusals.{asked}
 use Rattle.turning.specs.declared.refusal.Refusal.TheVariants.{ShortBuffers}

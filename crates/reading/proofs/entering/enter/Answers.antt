@@ -1,4 +1,4 @@
-use Rattle.reading.proofs.Filling.{none_entered, all_entered, slot_entered, slot_put, vertex_is}
+use Rattle.reading.proofs.Filling.{none_entered, all_entered}
 use Rattle.reading.proofs.entering.enter.Goals as goal
 
 pub enter_strips-requires : goal.enter_strips-requires

@@ -2,7 +2,6 @@ use Rattle.std.proofs.Common.{◌≡◌, ◌<◌, true, sym, ap, ◌∙◌, subs
 use Rattle.std.proofs.lemmas.Int.{to_z-of_z}
 use Rattle.turning.specs.Limits.{max_edge}
 use Rattle.search.specs.Marks.{place as mark_at}
-use Rattle.file.specs.Questions.{name_good}
 use Rattle.file.specs.Strips.{home}
 use Rattle.file.specs.Views.{told}
 use Rattle.seam_questions.specs.Vertices.{vertex_at}

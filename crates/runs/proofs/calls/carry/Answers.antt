@@ -1,4 +1,4 @@
-use Rattle.std.proofs.Common.{◌≡◌, ℤ, pos, Err, vec_items, sym, refl, ap, ◌∙◌, subst, ap₂, w16, SFits, to_z, of_z, rules}
+use Rattle.std.proofs.Common.{◌≡◌, pos, Err, vec_items, refl, ap, ◌∙◌, subst, ap₂, w16, SFits, rules}
 use Rattle.std.proofs.lemmas.List.{with_items_is}
 use Rattle.std.proofs.lemmas.Int.{to_z-of_z}
 use Rattle.turning.specs.Limits.{max_edge, marks_for, line_for}

@@ -1,4 +1,4 @@
-use Rattle.std.proofs.Common.{◌+◌, ◌-◌, ◌<◌, ◌∙◌, rules}
+use Rattle.std.proofs.Common.{◌+◌, ◌<◌, ◌∙◌, rules}
 use Rattle.file.specs.Layout.{strip}
 use Rattle.file.specs.Views.{told}
 use Rattle.seam_questions.proofs.SideMarks.{east_some, lent_good}

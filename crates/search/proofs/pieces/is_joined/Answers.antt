@@ -1,4 +1,4 @@
-use Rattle.std.proofs.Common.{◌≡◌, T, length, ◌∙◌, arith, w16}
+use Rattle.std.proofs.Common.{◌≡◌, length, ◌∙◌, arith, w16}
 use Rattle.flat.proofs.Basics.{not_T_false}
 use Rattle.std.proofs.lemmas.Int.{to_z-of_z}
 use Rattle.turning.specs.Limits.{max_edge, marks_for}

@@ -1,4 +1,4 @@
-use Rattle.std.proofs.Common.{◌≡◌, ◌≤◌, sym, ◌∙◌, subst, arith}
+use Rattle.std.proofs.Common.{◌≤◌, sym, ◌∙◌, subst, arith}
 use Rattle.turning.specs.Limits.{max_edge, slots}
 use Rattle.chart.specs.Linework.{lines_of}
 use Rattle.strips.specs.Borders.{slots_taken}

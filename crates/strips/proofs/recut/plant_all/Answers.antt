@@ -1,16 +1,14 @@
-use Rattle.std.proofs.Common.{◌≡◌, ℕ, suc, ◌+◌, ◌-◌, ◌*◌, ◌<◌, ◌≤◌, Bool, true, false, not, eqb, List, ℤ, pos, neg_ℤ, sym, refl, ap, ◌∙◌, subst, subst₂, arith}
+use Rattle.std.proofs.Common.{◌≡◌, ℕ, suc, ◌+◌, ◌-◌, ◌*◌, ◌≤◌, Bool, true, false, not, List, ℤ, pos, neg_ℤ, sym, refl, ap, ◌∙◌, subst, subst₂, arith}
 use Rattle.std.proofs.lemmas.Bool.{eq-eqb, ne_eqb}
 use Rattle.turning.specs.Limits.{max_edge, slots}
-use Rattle.turning.proofs.Names.{small, plus_fits, plus_name}
+use Rattle.turning.proofs.Names.{small, plus_name}
 use Rattle.laws.specs.Keeps.{Sound}
 use Rattle.halfedges.specs.declared.halfedge.Halfedge.{Halfedge}
 use Rattle.halfedges.specs.View.{seen}
 use Rattle.halfedges.specs.Rows.{turn_of, strips_of, lines_in, Packed, used, slot_count, Unlinked, externals, Planted, Core}
 use Rattle.halfedges.proofs.Counted.{packed_none}
 use Rattle.halfedges.proofs.Alone.{alone_each, alone_used, alone_unlinked}
-use Rattle.strips.specs.Borders.{slots_taken}
 use Rattle.strips.specs.Cuts.{list_of}
-use Rattle.strips.specs.Sheets.{Stripped}
 use Rattle.strips.proofs.Keeping.{Tally, home_is, stripped_by}
 use Rattle.strips.proofs.Planting.{Planting, planting_none, planting_skip, planting_eastward, planting_room, planting_more, planting_all}
 use Rattle.strips.proofs.recut.plant_all.Goals as goal

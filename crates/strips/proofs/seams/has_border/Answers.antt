@@ -1,8 +1,7 @@
-use Rattle.std.proofs.Common.{◌≡◌, ◌+◌, ◌<◌, ◌≤◌, min, true, false, length, get_or, take, ℤ, pos, sym, ap, ◌∙◌, arith, w32, SFits, of_z, rules}
+use Rattle.std.proofs.Common.{◌≡◌, ◌+◌, ◌<◌, ◌≤◌, false, length, get_or, take, pos, sym, ap, ◌∙◌, arith, w32, SFits, of_z, rules}
 use Rattle.std.proofs.lemmas.List.{length-take, get_or-take, take_all}
 use Rattle.std.proofs.lemmas.Int.{to_z-of_z}
 use Rattle.flat.specs.Whole.{equal}
-use Rattle.laws.proofs.Equal.{tell}
 use Rattle.strips.specs.Cuts.{list_of}
 use Rattle.strips.specs.Seams.{is_border}
 use Rattle.strips.proofs.Bordering.{found_border, passed_border, take_past, same_value, other_value}

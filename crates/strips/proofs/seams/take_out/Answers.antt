@@ -1,4 +1,4 @@
-use Rattle.std.proofs.Common.{◌≡◌, ℕ, ◌+◌, ◌<◌, ◌≤◌, min, true, false, List, [], ◌∷◌, ◌++◌, length, get_or, take, set, ℤ, pos, sym, refl, ap, ◌∙◌, ap₂, arith, w32, SFits, of_z, rules}
+use Rattle.std.proofs.Common.{◌≡◌, ℕ, ◌+◌, ◌<◌, ◌≤◌, true, false, List, [], ◌∷◌, ◌++◌, length, get_or, take, set, ℤ, pos, sym, refl, ap, ◌∙◌, arith, w32, SFits, of_z, rules}
 use Rattle.std.proofs.lemmas.List.{length-take, get_or-take, take_all, take_more_set, length-set}
 use Rattle.std.proofs.lemmas.Int.{to_z-of_z}
 use Rattle.flat.specs.Whole.{equal}

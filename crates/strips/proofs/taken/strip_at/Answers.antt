@@ -1,4 +1,4 @@
-use Rattle.std.proofs.Common.{◌≡◌, sym, ap, ◌∙◌, w32, SFits, rules}
+use Rattle.std.proofs.Common.{sym, ap, ◌∙◌, w32, SFits, rules}
 use Rattle.std.proofs.lemmas.Int.{to_z-of_z}
 use Rattle.strips.specs.Borders.{strip_of, x_of}
 use Rattle.strips.specs.Cuts.{list_of}

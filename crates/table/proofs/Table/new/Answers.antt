@@ -1,7 +1,6 @@
-use Rattle.std.proofs.Common.{◌≡◌, ◌*◌, ◌≤◌, false, leb, length, sym, refl, ap, ◌∙◌, subst, arith}
+use Rattle.std.proofs.Common.{◌≡◌, ◌*◌, ◌≤◌, false, leb, length, sym, ap, ◌∙◌, subst, arith}
 use Rattle.std.proofs.lemmas.Bool.Decides.{leb_tells}
 use Rattle.turning.specs.Limits.{max_edge, slots}
-use Rattle.chart.specs.Linework.{no_lines}
 use Rattle.halfedges.specs.View.{seen}
 use Rattle.halfedges.specs.Rows.{lines_in}
 use Rattle.halfedges.specs.Nothing.{short_lines}

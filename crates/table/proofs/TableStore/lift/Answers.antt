@@ -1,5 +1,4 @@
-use Rattle.std.proofs.Common.{◌≡◌, ◌≤◌, length, sym, refl, rules}
-use Rattle.turning.specs.Limits.{slots}
+use Rattle.std.proofs.Common.{sym, rules}
 use Rattle.table.proofs.Kept.{kept_out, held_long, lifted_good, same_frame}
 use Rattle.table.proofs.TableStore.lift.Goals as goal
 

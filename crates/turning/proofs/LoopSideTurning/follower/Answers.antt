@@ -1,4 +1,4 @@
-use Rattle.std.proofs.Common.{◌≡◌, true, pos, neg_ℤ, sym, arith, w16, SFits, rules}
+use Rattle.std.proofs.Common.{◌≡◌, true, pos, neg_ℤ, arith, w16, SFits, rules}
 use Rattle.std.proofs.lemmas.Int.{ints, to_z-of_z}
 use Rattle.std.proofs.lemmas.Bool.{cond-true}
 use Rattle.turning.proofs.Names.{minus_back}

@@ -1,4 +1,4 @@
-use Rattle.std.proofs.Common.{◌≡◌, ◌≤◌, true, false, leb, length, ap, ⊎_elim, arith}
+use Rattle.std.proofs.Common.{◌≤◌, leb, length, ap, ⊎_elim, arith}
 use Rattle.std.proofs.lemmas.Bool.{cases_Bool, leb-true}
 use Rattle.turning.specs.Limits.{max_edge, slots}
 use Rattle.halfedges.specs.Nothing.{short_lines}

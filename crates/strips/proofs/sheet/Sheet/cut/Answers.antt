@@ -1,6 +1,6 @@
-use Rattle.std.proofs.Common.{◌≡◌, ◌+◌, ◌<◌, ◌≤◌, true, false, length, sym, refl, ap, ◌∙◌, subst, arith, w32, SFits, rules}
+use Rattle.std.proofs.Common.{◌≡◌, ◌<◌, ◌≤◌, true, false, sym, refl, ap, ◌∙◌, subst, arith, w32, SFits}
 use Rattle.std.proofs.lemmas.Int.{to_z-of_z}
-use Rattle.turning.specs.Limits.{max_edge, slots, max_strips}
+use Rattle.turning.specs.Limits.{max_edge, max_strips}
 use Rattle.turning.specs.Counts.{Flat}
 use Rattle.chart.specs.Points.{within}
 use Rattle.halfedges.specs.View.{seen}

@@ -1,6 +1,6 @@
-use Rattle.std.proofs.Common.{◌≡◌, ◌+◌, ◌<◌, ◌≤◌, true, false, length, sym, refl, ap, ◌∙◌, subst, arith, w32, SFits}
+use Rattle.std.proofs.Common.{◌≡◌, true, sym, ap, ◌∙◌, subst, arith, w32, SFits}
 use Rattle.std.proofs.lemmas.Int.{to_z-of_z}
-use Rattle.turning.specs.Limits.{max_edge, slots}
+use Rattle.turning.specs.Limits.{max_edge}
 use Rattle.turning.specs.Counts.{Flat}
 use Rattle.chart.specs.Points.{within}
 use Rattle.halfedges.specs.View.{seen}

@@ -9,9 +9,9 @@ ghost use Rattle.file.specs.Verdict.{shape_verdict, told_lines};
 ghost use Rattle.told.specs.Tells.{borders_in, Standing};
 ghost use Rattle.reading.specs.Entries.{absent, lines_by};
 
+use crate::by_name::Told;
 use crate::entering::enter;
 use crate::entry::{ABSENT, Entry};
-use crate::told::Told;
 use file::le::{read_i32, read_u16};
 use strips::sheet::Sheet;
 use turning::limits::{MARK_BYTES, MAX_BORDERS};

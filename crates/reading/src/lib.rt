@@ -21,10 +21,10 @@ use search::marks::{Line, Marks};
 use strips::sheet::Sheet;
 use turning::limits::{LINE_NAMES, MARK_BYTES};
 
+mod by_name;
 mod entering;
 mod entry;
 mod laying;
-mod told;
 
 // Question 17: vertices + loops = edges + 2 × pieces.
 fn is_flat(sheet: &Sheet, marks: &mut [u8], line: &mut [i16]) -> bool

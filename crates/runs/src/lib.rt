@@ -2,5 +2,5 @@
 #![tactic(auto)]
 
 pub mod calls;
-pub mod laws;
 pub mod sheets;
+pub mod theorems;

@@ -4,9 +4,9 @@
 pub mod borders;
 mod changes;
 pub mod home;
-pub mod laws;
 pub mod layout;
 mod recut;
 pub mod seams;
 pub mod sheet;
 pub mod taken;
+pub mod theorems;

@@ -3,5 +3,5 @@
 
 mod arrays;
 mod gather;
-pub mod laws;
+pub mod theorems;
 pub mod write;

@@ -1,5 +1,5 @@
 use Rattle.strips.proofs.Sewing.{rooms_alike}
-use Rattle.strips.proofs.laws.rooms_alike_stands.Goals as goal
+use Rattle.strips.proofs.theorems.rooms_alike_stands.Goals as goal
 
 pub returns : goal.returns
 returns c = rooms_alike

@@ -1,5 +1,5 @@
 use Rattle.runs.proofs.Agree.{runs_agree}
-use Rattle.runs.proofs.laws.runs_agree_stands.Goals as goal
+use Rattle.runs.proofs.theorems.runs_agree_stands.Goals as goal
 
 pub returns : goal.returns
 returns c = runs_agree

@@ -2,8 +2,8 @@
 mod engine;
 mod plain;
 
-use engine::{Answer, Call, List};
-use plain::{Counts, Point, Sheet};
+use engine::{Call, List};
+use plain::{Point, Sheet};
 
 /// A small generator of numbers, the same on every machine.
 struct Dice(u64);
@@ -46,7 +46,7 @@ impl Shape {
         (0..length)
             .map(|_| {
                 let next = call(dice, self);
-                if carry(&mut self.sheet, next).number == 0 {
+                if next.carry(&mut self.sheet).number == 0 {
                     self.held = self.sheet.edges().collect();
                 }
                 next
@@ -112,24 +112,6 @@ fn call(dice: &mut Dice, shape: &mut Shape) -> Call {
     }
 }
 
-fn carry(sheet: &mut Sheet, call: Call) -> Answer {
-    let mut counts = Counts { vertices: 0, edges: 0, loops: 0, pieces: 0 };
-    let answer = match call {
-        Call::Start(e, p, q) => sheet.start(e, p, q),
-        Call::Sprout(e, c, p) => sheet.sprout(e, c, p),
-        Call::Join(e, c, d) => sheet.join(e, c, d),
-        Call::Split(e, f, p) => sheet.split(e, f, p),
-        Call::Remove(e) => sheet.remove(e),
-        Call::Cut(x) => sheet.cut(x),
-        Call::Knit(x) => sheet.knit(x),
-        Call::Count => {
-            counts = sheet.counts();
-            Ok(())
-        }
-    };
-    Answer { number: answer.err().unwrap_or(0) as u16, counts }
-}
-
 /// Runs the calls on both from one file; gives what was written, and counts the answers by their numbers.
 fn compare_list(file: &[u8], calls: &[Call], seen: &mut [u64; 64]) -> Vec<u8> {
     let mut list = List::new(calls);
@@ -137,7 +119,7 @@ fn compare_list(file: &[u8], calls: &[Call], seen: &mut [u64; 64]) -> Vec<u8> {
     let mut sheet = Sheet::read(file).expect("a file that is accepted");
     let answers = list.answers();
     for (k, call) in calls.iter().enumerate() {
-        let answer = carry(&mut sheet, *call);
+        let answer = call.carry(&mut sheet);
         assert_eq!(answers[k], answer, "call {k}, {call:?}");
         seen[answer.number as usize] += 1;
         assert!(sheet.flat(), "flat after call {k}, {call:?}");

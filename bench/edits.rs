@@ -52,20 +52,6 @@ fn turns() -> Vec<(&'static str, Vec<Call>)> {
     ]
 }
 
-fn carry(sheet: &mut Sheet, call: Call) -> u32 {
-    let answer = match call {
-        Call::Start(e, p, q) => sheet.start(e, p, q),
-        Call::Sprout(e, c, p) => sheet.sprout(e, c, p),
-        Call::Join(e, c, d) => sheet.join(e, c, d),
-        Call::Split(e, f, p) => sheet.split(e, f, p),
-        Call::Remove(e) => sheet.remove(e),
-        Call::Cut(x) => sheet.cut(x),
-        Call::Knit(x) => sheet.knit(x),
-        Call::Count => return sheet.counts().loops as u32,
-    };
-    answer.is_ok() as u32
-}
-
 /// Nanoseconds of one turn: a list of many less an empty list, which reads and writes the same file.
 fn proved(file: &[u8], turn: &[Call], times: usize) -> f64 {
     let mut many = List::new(&turn.repeat(times));
@@ -82,7 +68,7 @@ fn in_plain_rust(file: &[u8], turn: &[Call], times: usize) -> f64 {
     least(|| {
         for _ in 0..times {
             for call in turn {
-                black_box(carry(&mut sheet, black_box(*call)));
+                black_box(black_box(*call).carry(&mut sheet));
             }
         }
     }) / times as f64

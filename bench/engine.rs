@@ -1,7 +1,7 @@
 //! The proved engine as Rust sees it: the functions of the static library, each behind a safe wrapper.
 #![allow(dead_code)]
 
-use crate::plain::{Counts, Fault, Point};
+use crate::plain::{Counts, Fault, Point, Sheet};
 
 unsafe extern "C" {
     fn engine_run(file: *const u8, file_len: usize, calls: *const u8, calls_len: usize, answers: *mut u8, answers_len: usize, out: *mut u8, out_len: usize) -> i64;
@@ -45,6 +45,25 @@ impl Call {
             out[8 + 4 * k..12 + 4 * k].copy_from_slice(&z.to_le_bytes());
         }
         out
+    }
+
+    /// Carries out the call in plain Rust.
+    pub fn carry(self, sheet: &mut Sheet) -> Answer {
+        let mut counts = Counts { vertices: 0, edges: 0, loops: 0, pieces: 0 };
+        let answer = match self {
+            Call::Start(e, p, q) => sheet.start(e, p, q),
+            Call::Sprout(e, c, p) => sheet.sprout(e, c, p),
+            Call::Join(e, c, d) => sheet.join(e, c, d),
+            Call::Split(e, f, p) => sheet.split(e, f, p),
+            Call::Remove(e) => sheet.remove(e),
+            Call::Cut(x) => sheet.cut(x),
+            Call::Knit(x) => sheet.knit(x),
+            Call::Count => {
+                counts = sheet.counts();
+                Ok(())
+            }
+        };
+        Answer { number: answer.err().unwrap_or(0) as u16, counts }
     }
 }
 

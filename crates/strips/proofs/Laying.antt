@@ -22,6 +22,9 @@ use Rattle.strips.specs.Sheets.{Kept, room_of}
 use Rattle.strips.proofs.Planting.{edges_within}
 use Rattle.strips.proofs.Standing.{kept_out}
 
+pub is_short : (rs : List Halfedge) → leb slots (length rs) ≡ false → length rs < slots
+is_short rs e = grind (arith, leb_tells slots (length rs))
+
 -- a memory that is too short has no room
 pub short_room : (rs : List Halfedge) → length rs < slots → room_of rs ≡ 0
 short_room rs l = cond-false (leb slots (length rs)) slots 0 (grind (arith, leb_tells slots (length rs)))

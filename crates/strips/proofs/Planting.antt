@@ -1,6 +1,8 @@
 -- A memory of home rows gets its external rows, edge by edge. Assumes nothing.
-use Rattle.std.proofs.Common.{◌≡◌, ℕ, zero, suc, ◌+◌, ◌-◌, ◌*◌, ◌<◌, ◌≤◌, Bool, true, false, cond, ◌&&◌, eqb, ltb, leb, ◌⊎◌, List, ℤ, pos, negsuc, nat_abs, sym, refl, ap, ◌∙◌, subst, ap₂, inl, inr, arith}
+use Rattle.std.proofs.Common.{◌≡◌, ℕ, zero, suc, ◌+◌, ◌-◌, ◌*◌, ◌<◌, ◌≤◌, Bool, true, false, cond, ◌&&◌, eqb, ltb, leb, ◌⊎◌, List, ℤ, pos, negsuc, nat_abs, map, sum, sym, refl, ap, ◌∙◌, subst, ap₂, inl, inr, add-one, arith}
+use Rattle.std.specs.List.{range_with_len}
 use Rattle.std.proofs.lemmas.Int.{ints}
+use Rattle.std.proofs.lemmas.List.FromFn.{sum_by-map-range_with_len_more}
 use Rattle.std.proofs.lemmas.Bool.{cond-true, cond-false, both_ways, and_left, le-leb, lt-leb, cases_eq, cases_Bool}
 use Rattle.std.proofs.lemmas.Bool.Decides.{eqb_tells, leb_tells}
 use Rattle.flat.specs.Orbits.{indicator}
@@ -23,6 +25,16 @@ taken_none bs l = refl
 pub taken_more : (bs : List ℤ) (l : Linework) (i : ℕ) → slots_taken bs l (suc i) ≡ slots_of bs l (suc i) + slots_taken bs l i
 unfolding slots_taken
 taken_more bs l i = refl
+
+-- the slots of the edges from 1 on, added up
+pub taken_summed : (bs : List ℤ) (l : Linework) (n : ℕ) → sum (map (slots_of bs l) (range_with_len 1 n)) ≡ slots_taken bs l n
+taken_summed bs l zero = sym (taken_none bs l)
+taken_summed bs l (suc n) =
+    ap (λ k. sum (map (slots_of bs l) (range_with_len 1 k))) (sym (add-one n)) ∙ sum_by-map-range_with_len_more (λ x. x) (slots_of bs l) 1 n (suc n) (omega arith)
+    ∙ swap _ _ _ _ (taken_summed bs l n) (taken_more bs l n)
+  where
+    swap : (s t t' x : ℕ) → s ≡ t → t' ≡ x + t → s + x ≡ t'
+    swap s t t' x a b = omega arith
 
 -- an edge takes two slots at least
 slots_least : (bs : List ℤ) (l : Linework) (e : ℕ) → 2 * indicator (l.turn.held (pos e)) ≤ slots_of bs l e

@@ -106,6 +106,18 @@ blank_stripped bs rs all long = record {
   room = blank_used rs all long ∙ sym (ap (λ l. slots_taken bs l max_edge) (blank_lines rs all long) ∙ taken_none bs max_edge);
 }
 
+-- a memory whose records are freed if it is long enough means a sheet that holds nothing
+module _ (old rs : List Halfedge) (same : length rs ≡ length old) (freed : slots ≤ length old → Blank rs) where
+  pub freed_kept : (bs : List ℤ) → Kept bs rs
+  freed_kept bs long = blank_stripped bs rs (freed (omega arith)) long
+
+  pub freed_lines : lines_in (seen rs) ≡ no_lines
+  freed_lines = go (leb slots (length rs)) refl
+    where
+      go : (b : Bool) → leb slots (length rs) ≡ b → lines_in (seen rs) ≡ no_lines
+      go true e = let long : slots ≤ length rs = leb-true slots (length rs) e in blank_lines rs (freed (omega arith)) long
+      go false e = short_lines max_edge slots rs e
+
 -- ---- what fits
 -- how many slots an edge between the two points takes
 abbrev pub slots_between : List ℤ → Point → Point → ℕ

@@ -1,14 +1,13 @@
 // Where a halfedge is at home, asked in any strip that its edge runs through.
-ghost use Rattle.std.specs.Prelude.{◌≡◌, ◌&&◌, [], ◌∷◌, if◌then◌else◌, nat_le};
+ghost use Rattle.std.specs.Prelude.{◌≡◌, ◌&&◌, [], ◌∷◌, min, max, nat_le};
 ghost use Rattle.turning.specs.Refusals.{asked};
 ghost use Rattle.turning.specs.declared.refusal.Refusal.TheVariants.{NotThere};
 ghost use Rattle.halfedges.specs.View.{seen};
 ghost use Rattle.halfedges.specs.Rows.{lines_in};
 ghost use Rattle.strips.specs.Borders.{apart, strip_count};
-ghost use Rattle.strips.specs.Cuts.{list_of};
 ghost use Rattle.strips.specs.Answers.{told_home};
 
-use crate::borders::{Borders, strip_count, strip_of};
+use crate::borders::{Borders, copied, strip_count, strip_of};
 use crate::sheet::Sheet;
 use chart::Chart;
 use turning::Turning;
@@ -22,29 +21,22 @@ pub struct Home {
 }
 
 // The home in strip `here` of a halfedge whose edge goes on to strip `there`, asked in a strip between.
-fn home_between(strip: u16, here: u16, there: u16, eastward: bool) -> Result<Home, Refusal>
-    ensures { result ≡ asked ((nat_le (if eastward then here else there) strip && nat_le strip (if eastward then there else here), NotThere) ∷ []) (record { strip = here; crossed = apart strip here }) }
+fn home_between(strip: u16, here: u16, there: u16) -> Result<Home, Refusal>
+    ensures { result ≡ asked ((nat_le (min here there) strip && nat_le strip (max here there), NotThere) ∷ []) (record { strip = here; crossed = apart strip here }) }
 {
-    let first = if eastward { here } else { there };
-    let last = if eastward { there } else { here };
-    if strip < first || strip > last {
+    if strip < here.min(there) || strip > here.max(there) {
         return Err(Refusal::NotThere);
     }
-    let crossed = if strip < here {
-        here - strip
-    } else {
-        strip - here
-    };
     Ok(Home {
         strip: here,
-        crossed,
+        crossed: strip.abs_diff(here),
     })
 }
 
 impl<'a> Sheet<'a> {
     // How many strips the sheet has.
     pub fn strips(&self) -> u16
-        ensures { result ≡ strip_count (list_of self.now.borders) }
+        ensures { result ≡ strip_count self.now.borders.items }
     {
         strip_count(&self.borders)
     }
@@ -53,12 +45,12 @@ impl<'a> Sheet<'a> {
     pub fn borders(&self) -> Borders
         ensures { result ≡ self.now.borders }
     {
-        self.borders
+        copied(&self.borders)
     }
 
     // The home of h, asked in a strip that has a slot of h.
     pub fn home(&self, strip: u16, h: i16) -> Result<Home, Refusal>
-        ensures { result ≡ told_home (list_of self.now.borders) (lines_in (seen self.now.rows.at.now)) strip h }
+        ensures { result ≡ told_home self.now.borders.items (lines_in (seen self.now.rows.at.now)) strip h }
     {
         if !self.holds(h) {
             return Err(Refusal::NotThere);
@@ -72,6 +64,6 @@ impl<'a> Sheet<'a> {
         };
         let here = strip_of(&self.borders, p.x);
         let there = strip_of(&self.borders, q.x);
-        home_between(strip, here, there, h > 0)
+        home_between(strip, here, there)
     }
 }

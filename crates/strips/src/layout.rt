@@ -5,7 +5,6 @@ ghost use Rattle.turning.specs.Refusals.{asked};
 ghost use Rattle.chart.specs.Linework.{lines_of, no_lines};
 ghost use Rattle.halfedges.specs.View.{seen};
 ghost use Rattle.halfedges.specs.Rows.{lines_in};
-ghost use Rattle.strips.specs.Cuts.{list_of};
 ghost use Rattle.strips.specs.Borders.{slots_taken};
 ghost use Rattle.strips.specs.Sheets.{Kept, room_of};
 ghost use Rattle.strips.specs.Answers.{layout_questions, Laid};
@@ -13,23 +12,22 @@ ghost use Rattle.strips.specs.Answers.{layout_questions, Laid};
 use crate::borders;
 use crate::borders::Borders;
 use crate::recut::fill;
-use crate::sheet::Sheet;
+use crate::sheet::{Sheet, is_long};
 use crate::taken::slots_needed;
 use chart::Chart;
 use halfedges::halfedge::Rows;
 use table::Table;
-use turning::limits::SLOTS;
 use turning::refusal::Refusal;
 
 // Puts a whole chart into the memory, in the strips of the borders. A memory that is too short holds nothing, as a chart without an edge does.
-fn put_chart<C: Chart>(rows: &mut Rows, chart: &C, borders: Borders)
-    requires room { slots_taken (list_of borders) (lines_of C.Turning.turn C.Chart.points chart.now) max_edge ≤ room_of rows.old.at.now }
-    ensures kept { Kept (list_of borders) rows.new.at.now }
+fn put_chart<C: Chart>(rows: &mut Rows, chart: &C, borders: &Borders)
+    requires room { slots_taken borders.now.items (lines_of C.Turning.turn C.Chart.points chart.now) max_edge ≤ room_of rows.old.at.now }
+    ensures kept { Kept borders.now.items rows.new.at.now }
     ensures lines { lines_in (seen rows.new.at.now) ≡ lines_of C.Turning.turn C.Chart.points chart.now }
     ensures length { length rows.new.at.now ≡ length rows.old.at.now }
 {
     chart.placed();
-    if rows.at.len() < SLOTS {
+    if !is_long(rows) {
         return;
     }
     fill(rows, chart, borders);
@@ -39,16 +37,14 @@ impl<'a> Sheet<'a> {
     // Holds exactly the chart, in the strips of the borders, whatever it held before. A refusal leaves the sheet as it is.
     pub fn layout<C: Chart>(&mut self, chart: &C, borders: &[i32]) -> Result<(), Refusal>
         ensures answer { result ≡ asked (layout_questions borders.now (lines_of C.Turning.turn C.Chart.points chart.now) (room_of self.old.rows.at.now)) tt }
-        ensures laid { Laid result borders.now (lines_of C.Turning.turn C.Chart.points chart.now) (list_of self.old.borders) self.old.rows.at.now (list_of self.new.borders) self.new.rows.at.now }
+        ensures laid { Laid result borders.now (lines_of C.Turning.turn C.Chart.points chart.now) self.old.borders.items self.old.rows.at.now self.new.borders.items self.new.rows.at.now }
         ensures length { length self.new.rows.at.now ≡ length self.old.rows.at.now }
     {
         let cut = borders::check(borders)?;
-        let needed = slots_needed(chart, &cut) as usize;
-        let room = if self.rows.at.len() < SLOTS { 0 } else { SLOTS };
-        if needed > room {
+        if slots_needed(chart, &cut) > self.slot_count() {
             return Err(Refusal::NoRoom);
         }
-        put_chart(&mut self.rows, chart, cut);
+        put_chart(&mut self.rows, chart, &cut);
         self.borders = cut;
         Ok(())
     }

@@ -6,7 +6,6 @@ ghost use Rattle.halfedges.specs.View.{seen};
 ghost use Rattle.halfedges.specs.Rows.{lines_in, Core};
 ghost use Rattle.halfedges.specs.Homes.{HomesAlone};
 ghost use Rattle.strips.specs.Borders.{slots_taken};
-ghost use Rattle.strips.specs.Cuts.{list_of};
 ghost use Rattle.strips.specs.Recuts.{InStrips};
 ghost use Rattle.strips.specs.Sheets.{Stripped};
 
@@ -26,7 +25,7 @@ fn renumber(rows: &mut [Halfedge], borders: &Borders)
     ensures core { Core max_edge slots rows.new }
     ensures lines { lines_in (seen rows.new) ≡ lines_in (seen rows.old) }
     ensures alone { HomesAlone slots (seen rows.new) }
-    ensures homes { InStrips (list_of borders.now) (seen rows.new) }
+    ensures homes { InStrips borders.now.items (seen rows.new) }
 {
     for i in 0..SLOTS {
         if rows[i].name != 0 {
@@ -40,9 +39,9 @@ fn renumber(rows: &mut [Halfedge], borders: &Borders)
 fn plant_all(rows: &mut [Halfedge], _borders: &Borders)
     requires core { Core max_edge slots rows.old }
     requires alone { HomesAlone slots (seen rows.old) }
-    requires homes { InStrips (list_of _borders.now) (seen rows.old) }
-    requires room { slots_taken (list_of _borders.now) (lines_in (seen rows.old)) max_edge ≤ slots }
-    ensures stripped { Stripped max_edge slots (list_of _borders.now) rows.new }
+    requires homes { InStrips _borders.now.items (seen rows.old) }
+    requires room { slots_taken _borders.now.items (lines_in (seen rows.old)) max_edge ≤ slots }
+    ensures stripped { Stripped max_edge slots _borders.now.items rows.new }
     ensures lines { lines_in (seen rows.new) ≡ lines_in (seen rows.old) }
 {
     let mut known = 0;
@@ -54,23 +53,23 @@ fn plant_all(rows: &mut [Halfedge], _borders: &Borders)
 }
 
 // Puts what the memory holds into the strips of the borders, if all of it finds its slots there.
-pub(crate) fn recut(rows: &mut Rows, borders: Borders)
+pub(crate) fn recut(rows: &mut Rows, borders: &Borders)
     requires core { Core max_edge slots rows.old.at.now }
-    requires room { slots_taken (list_of borders) (lines_in (seen rows.old.at.now)) max_edge ≤ slots }
-    ensures stripped { Stripped max_edge slots (list_of borders) rows.new.at.now }
+    requires room { slots_taken borders.now.items (lines_in (seen rows.old.at.now)) max_edge ≤ slots }
+    ensures stripped { Stripped max_edge slots borders.now.items rows.new.at.now }
     ensures lines { lines_in (seen rows.new.at.now) ≡ lines_in (seen rows.old.at.now) }
     ensures length { length rows.new.at.now ≡ length rows.old.at.now }
 {
     drop_external(rows.at);
-    renumber(rows.at, &borders);
-    plant_all(rows.at, &borders);
+    renumber(rows.at, borders);
+    plant_all(rows.at, borders);
 }
 
 // Fills the memory with a whole chart, and nothing else, in the strips of the borders.
-pub(crate) fn fill<C: Chart>(rows: &mut Rows, chart: &C, borders: Borders)
+pub(crate) fn fill<C: Chart>(rows: &mut Rows, chart: &C, borders: &Borders)
     requires long { slots ≤ length rows.old.at.now }
-    requires room { slots_taken (list_of borders) (lines_of C.Turning.turn C.Chart.points chart.now) max_edge ≤ slots }
-    ensures stripped { Stripped max_edge slots (list_of borders) rows.new.at.now }
+    requires room { slots_taken borders.now.items (lines_of C.Turning.turn C.Chart.points chart.now) max_edge ≤ slots }
+    ensures stripped { Stripped max_edge slots borders.now.items rows.new.at.now }
     ensures lines { lines_in (seen rows.new.at.now) ≡ lines_of C.Turning.turn C.Chart.points chart.now }
     ensures length { length rows.new.at.now ≡ length rows.old.at.now }
 {

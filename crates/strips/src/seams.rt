@@ -5,13 +5,12 @@ ghost use Rattle.turning.specs.Counts.{Flat};
 ghost use Rattle.halfedges.specs.View.{seen};
 ghost use Rattle.halfedges.specs.Rows.{turn_of, lines_in, Core};
 ghost use Rattle.strips.specs.Borders.{slots_taken};
-ghost use Rattle.strips.specs.Cuts.{list_of};
 ghost use Rattle.strips.specs.Seams.{with_border, without_border, is_border, Cuts, Knits};
 ghost use Rattle.strips.specs.Sheets.{Kept, room_of, sheet_of};
 
-use crate::borders::{Borders, strip_count, strip_of};
+use crate::borders::{Borders, copied, strip_count, strip_of};
 use crate::recut::recut;
-use crate::sheet::Sheet;
+use crate::sheet::{Sheet, is_long};
 use crate::taken::slots_needed;
 use chart::point::is_within;
 use halfedges::halfedge::Rows;
@@ -20,86 +19,54 @@ use turning::refusal::Refusal;
 
 // Is x one of the borders?
 fn has_border(borders: &Borders, x: i32) -> bool
-    ensures { result ≡ is_border x (list_of borders.now) }
+    ensures { result ≡ is_border x borders.now.items }
 {
-    for i in 0..MAX_BORDERS {
-        if i < borders.count as usize && borders.at[i] == x {
-            return true;
-        }
-    }
-    false
-}
-
-// The border at place i once x is put in: those that are not above x stay, and the others make room.
-fn border_at(borders: &Borders, x: i32, i: usize) -> i32
-    requires { i ≤ length (list_of borders.now) }
-    ensures { result ≡ slice_index_or (with_border x (list_of borders.now)) i (pos 0) }
-{
-    let place = strip_of(borders, x) as usize - 1;
-    if i < place {
-        return borders.at[i];
-    }
-    if i == place {
-        return x;
-    }
-    borders.at[i - 1]
+    borders.contains(&x)
 }
 
 // The borders with x put in.
 fn put_in(borders: &Borders, x: i32) -> Borders
-    requires { length (list_of borders.now) < 31 }
-    ensures { list_of result ≡ with_border x (list_of borders.now) }
+    requires { length borders.now.items < 31 }
+    ensures { result.items ≡ with_border x borders.now.items }
 {
-    let count = strip_count(borders);
-    let mut at = [0; MAX_BORDERS];
-    for i in 0..count as usize {
-        at[i] = border_at(borders, x, i);
-    }
-    Borders { at, count }
+    let mut more = copied(borders);
+    more.insert(strip_of(borders, x) as usize - 1, x);
+    more
 }
 
 // The borders with x taken out.
 fn take_out(borders: &Borders, x: i32) -> Borders
-    ensures { list_of result ≡ without_border x (list_of borders.now) }
+    ensures { result.items ≡ without_border x borders.now.items }
 {
-    let mut at = [0; MAX_BORDERS];
-    let mut count: u16 = 0;
-    for i in 0..MAX_BORDERS {
-        if i < borders.count as usize && borders.at[i] != x {
-            at[count as usize] = borders.at[i];
-            count += 1;
-        }
-    }
-    Borders { at, count }
+    let mut fewer = copied(borders);
+    fewer.retain(|b| *b != x);
+    fewer
 }
 
 // Puts the rows of a memory that is long enough into the strips of the borders; a shorter one has none.
-fn lay_out(rows: &mut Rows, borders: Borders)
+fn lay_out(rows: &mut Rows, borders: &Borders)
     requires core { slots ≤ length rows.old.at.now → Core max_edge slots rows.old.at.now }
-    requires room { slots_taken (list_of borders) (lines_in (seen rows.old.at.now)) max_edge ≤ slots }
-    ensures kept { Kept (list_of borders) rows.new.at.now }
+    requires room { slots_taken borders.now.items (lines_in (seen rows.old.at.now)) max_edge ≤ slots }
+    ensures kept { Kept borders.now.items rows.new.at.now }
     ensures lines { lines_in (seen rows.new.at.now) ≡ lines_in (seen rows.old.at.now) }
     ensures slots { room_of rows.new.at.now ≡ room_of rows.old.at.now }
 {
-    if rows.at.len() >= SLOTS {
+    if is_long(rows) {
         recut(rows, borders);
     }
 }
 
 impl Sheet<'_> {
     // How many slots the sheet has: none where its memory is too short.
-    fn slot_count(&self) -> u32
+    pub(crate) fn slot_count(&self) -> u32
         ensures { result ≡ room_of self.now.rows.at.now }
     {
-        if self.rows.at.len() < SLOTS {
-            return 0;
-        }
-        SLOTS as u32
+        if is_long(&self.rows) { SLOTS as u32 } else { 0 }
     }
 
     // Cuts the sheet at a new border.
     pub fn cut(&mut self, x: i32) -> Result<(), Refusal>
-        ensures done { Cuts max_edge (sheet_of (list_of self.old.borders) self.old.rows.at.now) x result (sheet_of (list_of self.new.borders) self.new.rows.at.now) }
+        ensures done { Cuts max_edge (sheet_of self.old.borders.items self.old.rows.at.now) x result (sheet_of self.new.borders.items self.new.rows.at.now) }
         ensures flat { Flat max_edge (turn_of (seen self.old.rows.at.now)) → Flat max_edge (turn_of (seen self.new.rows.at.now)) }
     {
         if !is_within(x) {
@@ -115,14 +82,14 @@ impl Sheet<'_> {
         if slots_needed(self, &borders) > self.slot_count() {
             return Err(Refusal::NoRoom);
         }
-        lay_out(&mut self.rows, borders);
+        lay_out(&mut self.rows, &borders);
         self.borders = borders;
         Ok(())
     }
 
     // Knits the sheet together at a border.
     pub fn knit(&mut self, x: i32) -> Result<(), Refusal>
-        ensures done { Knits max_edge (sheet_of (list_of self.old.borders) self.old.rows.at.now) x result (sheet_of (list_of self.new.borders) self.new.rows.at.now) }
+        ensures done { Knits max_edge (sheet_of self.old.borders.items self.old.rows.at.now) x result (sheet_of self.new.borders.items self.new.rows.at.now) }
         ensures flat { Flat max_edge (turn_of (seen self.old.rows.at.now)) → Flat max_edge (turn_of (seen self.new.rows.at.now)) }
     {
         if !is_within(x) {
@@ -132,7 +99,7 @@ impl Sheet<'_> {
             return Err(Refusal::WrongBorder);
         }
         let borders = take_out(&self.borders, x);
-        lay_out(&mut self.rows, borders);
+        lay_out(&mut self.rows, &borders);
         self.borders = borders;
         Ok(())
     }

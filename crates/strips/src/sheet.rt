@@ -8,7 +8,6 @@ ghost use Rattle.chart.specs.Linework.{no_lines};
 ghost use Rattle.halfedges.specs.View.{seen};
 ghost use Rattle.halfedges.specs.Rows.{turn_of, points_of, lines_in, Blank};
 ghost use Rattle.strips.specs.Borders.{rising};
-ghost use Rattle.strips.specs.Cuts.{list_of};
 ghost use Rattle.strips.specs.Sheets.{Kept, lawful_of, frame_of, fits_of};
 
 use crate::borders;
@@ -28,8 +27,15 @@ use turning::refusal::Refusal;
 pub struct Sheet<'a> {
     pub(crate) rows: Rows<'a>,
     pub(crate) borders: Borders,
-    ghost ok: { ∥ Kept (list_of borders) rows.at.now ∥₁ },
-    ghost rises: { rising (list_of borders) ≡ true },
+    ghost ok: { ∥ Kept borders.items rows.at.now ∥₁ },
+    ghost rises: { rising borders.items ≡ true },
+}
+
+// Has a memory enough records?
+pub(crate) fn is_long(rows: &Rows) -> bool
+    ensures { result ≡ nat_le slots (length rows.now.at.now) }
+{
+    rows.at.len() >= SLOTS
 }
 
 // Frees every record of a memory that is long enough; a shorter one, which holds nothing, is left as it is.
@@ -38,7 +44,7 @@ fn free_rows(rows: &mut Rows)
     ensures length { length rows.new.at.now ≡ length rows.old.at.now }
     ensures left { length rows.old.at.now < slots → rows.new.at.now ≡ rows.old.at.now }
 {
-    if rows.at.len() >= SLOTS {
+    if is_long(rows) {
         slots::free_all(rows.at);
     }
 }
@@ -47,15 +53,14 @@ impl<'a> Sheet<'a> {
     // An empty sheet of one strip, whatever the memory held. A memory that is too short is left as it is; `ready` then refuses.
     pub fn new(memory: &'a mut [Halfedge]) -> Sheet<'a>
         ensures empty { lines_in (seen result.rows.at.now) ≡ no_lines }
-        ensures uncut { list_of result.borders ≡ [] }
+        ensures uncut { result.borders.items ≡ [] }
         ensures length { length result.rows.at.now ≡ length memory.old }
         ensures left { length memory.old < slots → result.rows.at.now ≡ memory.old }
     {
-        if memory.len() >= SLOTS {
-            slots::free_all(memory);
-        }
+        let mut rows = Rows { at: memory };
+        free_rows(&mut rows);
         Sheet {
-            rows: Rows { at: memory },
+            rows,
             borders: borders::none(),
         }
     }
@@ -63,7 +68,7 @@ impl<'a> Sheet<'a> {
     // The empty sheet of one strip, whatever it held before.
     pub fn clear(&mut self)
         ensures empty { lines_in (seen self.new.rows.at.now) ≡ no_lines }
-        ensures uncut { list_of self.new.borders ≡ [] }
+        ensures uncut { self.new.borders.items ≡ [] }
         ensures length { length self.new.rows.at.now ≡ length self.old.rows.at.now }
         ensures left { length self.old.rows.at.now < slots → self.new.rows.at.now ≡ self.old.rows.at.now }
     {
@@ -75,7 +80,7 @@ impl<'a> Sheet<'a> {
     pub fn ready(&self) -> Result<(), Refusal>
         ensures { result ≡ asked ((nat_le slots (length self.now.rows.at.now), ShortMemory) ∷ []) tt }
     {
-        if self.rows.at.len() < SLOTS {
+        if !is_long(&self.rows) {
             return Err(Refusal::ShortMemory);
         }
         Ok(())
@@ -83,22 +88,20 @@ impl<'a> Sheet<'a> {
 
     // Do the slots of an edge between the two points fit?
     fn has_room(&self, p: Point, q: Point) -> bool
-        ensures { result ≡ fits_of (list_of self.now.borders) self.now.rows.at.now p q }
+        ensures { result ≡ fits_of self.now.borders.items self.now.rows.at.now p q }
     {
-        if self.rows.at.len() < SLOTS {
+        if !is_long(&self.rows) {
             return false;
         }
-        let a = strip_of(&self.borders, p.x) as usize;
-        let b = strip_of(&self.borders, q.x) as usize;
-        let crossed = if a < b { b - a } else { a - b };
-        slots::count_used(self.rows.at) + 2 * (crossed + 1) <= SLOTS
+        let crossed = strip_of(&self.borders, p.x).abs_diff(strip_of(&self.borders, q.x));
+        slots::count_used(self.rows.at) + 2 * (crossed as usize + 1) <= SLOTS
     }
 }
 
 impl Turning for Sheet<'_> {
     ghost turn = { λ s. turn_of (seen s.rows.at.now) };
 
-    ghost lawful = { λ s. lawful_of (list_of s.borders) s.rows.at.now s.ok };
+    ghost lawful = { λ s. lawful_of s.borders.items s.rows.at.now s.ok };
 
     fn holds(&self, h: i16) -> bool {
         slots::slot(self.rows.at, h) != 0
@@ -124,9 +127,9 @@ impl Chart for Sheet<'_> {
 }
 
 impl Store for Sheet<'_> {
-    ghost frame = { λ s. frame_of (list_of s.borders) s.rows.at.now };
+    ghost frame = { λ s. frame_of s.borders.items s.rows.at.now };
 
-    ghost fits = { λ s. fits_of (list_of s.borders) s.rows.at.now };
+    ghost fits = { λ s. fits_of s.borders.items s.rows.at.now };
 
     fn hang(&mut self, edge: u16, a: End, b: End) -> bool {
         let fits = self.has_room(a.point, b.point);
@@ -134,7 +137,7 @@ impl Store for Sheet<'_> {
             return false;
         }
         let (start, end) = west_to_east(a, b);
-        hang_through(&mut self.rows, self.borders, edge, start, end);
+        hang_through(&mut self.rows, &self.borders, edge, start, end);
         true
     }
 
@@ -142,7 +145,7 @@ impl Store for Sheet<'_> {
         if !holds_edge(self, edge) {
             return false;
         }
-        lift_through(&mut self.rows, self.borders, edge);
+        lift_through(&mut self.rows, &self.borders, edge);
         true
     }
 
@@ -154,7 +157,7 @@ impl Store for Sheet<'_> {
         let Some(to) = east_end(self, edge) else {
             return false;
         };
-        cleave_through(&mut self.rows, self.borders, edge, east, at, to);
+        cleave_through(&mut self.rows, &self.borders, edge, east, at, to);
         true
     }
 }

@@ -2,8 +2,7 @@
 ghost use Rattle.std.specs.Prelude.{◌≡◌, ◌^◌, ◌≤◌};
 ghost use Rattle.turning.specs.Limits.{max_edge};
 ghost use Rattle.chart.specs.Linework.{lines_of};
-ghost use Rattle.strips.specs.Borders.{strip_of, apart, x_of, slots_of, slots_taken};
-ghost use Rattle.strips.specs.Cuts.{list_of};
+ghost use Rattle.strips.specs.Borders.{strip_of, x_of, slots_of, slots_taken};
 
 use crate::borders::{Borders, strip_of};
 use chart::Chart;
@@ -13,7 +12,7 @@ use turning::limits::MAX_EDGE;
 
 // The strip of a point that is told; where none is, that of x 0.
 pub fn strip_at(borders: &Borders, told: Option<Point>) -> u16
-    ensures { result ≡ strip_of (list_of borders.now) (x_of told) }
+    ensures { result ≡ strip_of borders.now.items (x_of told) }
 {
     match told {
         None => strip_of(borders, 0),
@@ -21,16 +20,9 @@ pub fn strip_at(borders: &Borders, told: Option<Point>) -> u16
     }
 }
 
-// How many borders lie between two strips.
-fn borders_between(a: u16, b: u16) -> u16
-    ensures { result ≡ apart a b }
-{
-    if a < b { b - a } else { a - b }
-}
-
 // How many slots an edge of the chart takes: two in each strip that it runs through. A strip's number has 16 bits, so they are few enough to add up.
 fn slots_of<C: Chart>(chart: &C, borders: &Borders, edge: u16) -> u32
-    ensures taken { result ≡ slots_of (list_of borders.now) (lines_of C.Turning.turn C.Chart.points chart.now) edge }
+    ensures taken { result ≡ slots_of borders.now.items (lines_of C.Turning.turn C.Chart.points chart.now) edge }
     ensures few { result ≤ 2 ^ 17 }
 {
     if !holds_edge(chart, edge) {
@@ -38,16 +30,12 @@ fn slots_of<C: Chart>(chart: &C, borders: &Borders, edge: u16) -> u32
     }
     let first = strip_at(borders, west_end(chart, edge));
     let last = strip_at(borders, east_end(chart, edge));
-    2 * (borders_between(first, last) as u32 + 1)
+    2 * (first.abs_diff(last) as u32 + 1)
 }
 
 // How many slots all edges of the chart take.
 pub(crate) fn slots_needed<C: Chart>(chart: &C, borders: &Borders) -> u32
-    ensures { result ≡ slots_taken (list_of borders.now) (lines_of C.Turning.turn C.Chart.points chart.now) max_edge }
+    ensures { result ≡ slots_taken borders.now.items (lines_of C.Turning.turn C.Chart.points chart.now) max_edge }
 {
-    let mut count = 0;
-    for e in 1..=MAX_EDGE {
-        count += slots_of(chart, borders, e);
-    }
-    count
+    (1..MAX_EDGE + 1).map(|e| slots_of(chart, borders, e)).sum()
 }

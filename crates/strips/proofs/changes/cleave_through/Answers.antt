@@ -6,7 +6,6 @@ use Rattle.chart.specs.Changes.{at}
 use Rattle.halfedges.specs.View.{seen}
 use Rattle.halfedges.specs.Rows.{strips_of, Unlinked, same_place, slot_count}
 use Rattle.strips.specs.Borders.{strip_of}
-use Rattle.strips.specs.Cuts.{list_of}
 use Rattle.strips.proofs.Lifting.{held_eastward, held_there}
 use Rattle.strips.proofs.Cleaving.{cleave_cuts₁, cleave_room₁, cleave_here₂, cleave_eastward₂, cleave_room₂, cleave_here₃, cleave_eastward₃, cleave_room₃, cleave_lines, cleave_stripped}
 use Rattle.strips.proofs.changes.cleave_through.Goals as goal
@@ -15,7 +14,7 @@ pub uproot_edge-requires : goal.uproot_edge-requires
 uproot_edge-requires c =
     let p = c.requires in
     let a = c.args in
-    let bs = list_of a.borders in
+    let bs = a.borders.now.items in
     let rs = a.rows.now.at.now in
     record {
       core = p.stripped.core;
@@ -28,7 +27,7 @@ pub cleave_edge-requires : goal.cleave_edge-requires
 cleave_edge-requires c =
     let p = c.requires in
     let a = c.args in
-    let bs = list_of a.borders in
+    let bs = a.borders.now.items in
     let rs = a.rows.now.at.now in
     let u = c.uproot_edge.ensures in
     record {
@@ -41,7 +40,7 @@ pub plant_edge-requires : goal.plant_edge-requires
 plant_edge-requires c =
     let p = c.requires in
     let a = c.args in
-    let bs = list_of a.borders in
+    let bs = a.borders.now.items in
     let rs = a.rows.now.at.now in
     let rs₁ = c.uproot_edge.new.rows in
     let rs₂ = c.cleave_edge.new.rows.at.now in
@@ -64,7 +63,7 @@ pub plant_edge-requires-2 : goal.plant_edge-requires-2
 plant_edge-requires-2 c =
     let p = c.requires in
     let a = c.args in
-    let bs = list_of a.borders in
+    let bs = a.borders.now.items in
     let rs = a.rows.now.at.now in
     let rs₁ = c.uproot_edge.new.rows in
     let rs₂ = c.cleave_edge.new.rows.at.now in
@@ -89,7 +88,7 @@ pub returns : goal.returns
 returns c =
     let p = c.requires in
     let a = c.args in
-    let bs = list_of a.borders in
+    let bs = a.borders.now.items in
     let rs = a.rows.now.at.now in
     let rs₁ = c.uproot_edge.new.rows in
     let rs₂ = c.cleave_edge.new.rows.at.now in

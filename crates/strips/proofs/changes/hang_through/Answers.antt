@@ -6,7 +6,6 @@ use Rattle.chart.specs.Changes.{at}
 use Rattle.halfedges.specs.View.{seen}
 use Rattle.halfedges.specs.Rows.{strips_of, same_place, slot_count}
 use Rattle.strips.specs.Borders.{strip_of}
-use Rattle.strips.specs.Cuts.{list_of}
 use Rattle.strips.proofs.Keeping.{hang_room₀, hang_here₁, hang_eastward₁, hang_room₁, hang_lines, hang_stripped}
 use Rattle.strips.proofs.changes.hang_through.Goals as goal
 
@@ -14,13 +13,13 @@ pub hang_edge-requires : goal.hang_edge-requires
 hang_edge-requires c =
     let p = c.requires in
     let a = c.args in
-    record { core = p.stripped.core; ends = p.ends; room = hang_room₀ (list_of a.borders) a.rows.now.at.now p.stripped a.edge a.start a.end p.ends p.room }
+    record { core = p.stripped.core; ends = p.ends; room = hang_room₀ a.borders.now.items a.rows.now.at.now p.stripped a.edge a.start a.end p.ends p.room }
 
 pub plant_edge-requires : goal.plant_edge-requires
 plant_edge-requires c =
     let p = c.requires in
     let a = c.args in
-    let bs = list_of a.borders in
+    let bs = a.borders.now.items in
     let rs = a.rows.now.at.now in
     let rs₁ = c.hang_edge.new.rows.at.now in
     let h = c.hang_edge.ensures in
@@ -41,7 +40,7 @@ pub returns : goal.returns
 returns c =
     let p = c.requires in
     let a = c.args in
-    let bs = list_of a.borders in
+    let bs = a.borders.now.items in
     let rs = a.rows.now.at.now in
     let rs₁ = c.hang_edge.new.rows.at.now in
     let rs₂ = c.plant_edge.new.rows in

@@ -1,4 +1,3 @@
-use Rattle.strips.specs.Cuts.{list_of}
 use Rattle.strips.proofs.Lifting.{held_eastward, held_there, gone_here, lift_lines, lift_stripped}
 use Rattle.strips.proofs.changes.lift_through.Goals as goal
 
@@ -6,7 +5,7 @@ pub uproot_edge-requires : goal.uproot_edge-requires
 uproot_edge-requires c =
     let p = c.requires in
     let a = c.args in
-    let bs = list_of a._borders in
+    let bs = a._borders.now.items in
     let rs = a.rows.now.at.now in
     record {
       core = p.stripped.core;
@@ -20,13 +19,13 @@ lift_edge-requires c =
     let p = c.requires in
     let a = c.args in
     let u = c.uproot_edge.ensures in
-    record { core = u.core; here = gone_here (list_of a._borders) a.rows.now.at.now p.stripped a.edge p.here c.uproot_edge.new.rows u.planted }
+    record { core = u.core; here = gone_here a._borders.now.items a.rows.now.at.now p.stripped a.edge p.here c.uproot_edge.new.rows u.planted }
 
 pub returns : goal.returns
 returns c =
     let p = c.requires in
     let a = c.args in
-    let bs = list_of a._borders in
+    let bs = a._borders.now.items in
     let rs = a.rows.now.at.now in
     let rs₁ = c.uproot_edge.new.rows in
     let rs₂ = c.lift_edge.new.rows.at.now in

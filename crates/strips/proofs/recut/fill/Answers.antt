@@ -2,19 +2,18 @@ use Rattle.std.proofs.Common.{◌≤◌, sym, ◌∙◌, subst, arith}
 use Rattle.turning.specs.Limits.{max_edge, slots}
 use Rattle.chart.specs.Linework.{lines_of}
 use Rattle.strips.specs.Borders.{slots_taken}
-use Rattle.strips.specs.Cuts.{list_of}
 use Rattle.strips.proofs.Planting.{edges_within}
 use Rattle.strips.proofs.recut.fill.Goals as goal
 
 pub copy_chart-requires : goal.copy_chart-requires
 copy_chart-requires g c =
-    let bs = list_of c.args.borders in
+    let bs = c.args.borders.now.items in
     let lines = lines_of g.C.Turning.turn g.C.Chart.points c.args.chart.now in
     record { long = c.requires.long; room = omega (arith, edges_within bs lines max_edge, c.requires.room) }
 
 pub recut-requires : goal.recut-requires
 recut-requires g c =
-    let bs = list_of c.args.borders in
+    let bs = c.args.borders.now.items in
     record { core = c.copy_chart.ensures.core; room = subst (λ l. slots_taken bs l max_edge ≤ slots) (sym c.copy_chart.ensures.lines) c.requires.room }
 
 pub returns : goal.returns

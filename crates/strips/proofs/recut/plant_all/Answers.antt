@@ -8,7 +8,6 @@ use Rattle.halfedges.specs.View.{seen}
 use Rattle.halfedges.specs.Rows.{turn_of, strips_of, lines_in, Packed, used, slot_count, Unlinked, externals, Planted, Core}
 use Rattle.halfedges.proofs.Counted.{packed_none}
 use Rattle.halfedges.proofs.Alone.{alone_each, alone_used, alone_unlinked}
-use Rattle.strips.specs.Cuts.{list_of}
 use Rattle.strips.proofs.Keeping.{Tally, home_is, stripped_by}
 use Rattle.strips.proofs.Planting.{Planting, planting_none, planting_skip, planting_eastward, planting_room, planting_more, planting_all}
 use Rattle.strips.proofs.recut.plant_all.Goals as goal
@@ -23,7 +22,7 @@ pub loop-e-init : goal.loop-e-init
 loop-e-init c = (
   packed_none (seen c.args.rows.now),
   λ i z.
-      let bs = list_of c.args._borders.now in
+      let bs = c.args._borders.now.items in
       let rs = c.args.rows.now in
       let v = seen rs in
       let core = c.requires.core in
@@ -54,7 +53,7 @@ held_first rs₀ rs lines i e is b held = ap (λ k. (lines_in (seen rs₀)).turn
 
 pub plant_edge_past-known-requires : goal.plant_edge_past-known-requires
 plant_edge_past-known-requires c =
-    let bs = list_of c.args._borders.now in
+    let bs = c.args._borders.now.items in
     let rs₀ = c.args.rows.now in
     let rs = c.loop-e.rows in
     let v = seen rs in
@@ -104,7 +103,7 @@ pub loop-e-preserved : goal.loop-e-preserved
 loop-e-preserved c = (
   still_packed c,
   λ i z.
-      let bs = list_of c.args._borders.now in
+      let bs = c.args._borders.now.items in
       let rs₀ = c.args.rows.now in
       let rs = c.loop-e.rows in
       let v = seen rs in
@@ -133,7 +132,7 @@ loop-e-preserved c = (
 
 pub returns : goal.returns
 returns c =
-    let bs = list_of c.args._borders.now in
+    let bs = c.args._borders.now.items in
     let rs₀ = c.args.rows.now in
     let rs = c.loop-e.rows in
     let v = seen rs in

@@ -13,7 +13,6 @@ use Rattle.halfedges.proofs.Beside.{core_same}
 use Rattle.halfedges.proofs.Meaning.{held_slot}
 use Rattle.halfedges.proofs.Views.{row_is}
 use Rattle.strips.specs.Borders.{strip_of}
-use Rattle.strips.specs.Cuts.{list_of}
 use Rattle.strips.proofs.recut.renumber.Goals as goal
 use Rattle.strips.proofs.recut.renumber.Goals.{then-rows-i-ne0, else-rows-i-ne0}
 
@@ -45,7 +44,7 @@ left bs rs₀ i rs past free = (past.0, past.1, past.2, below_more _ _ past.3 (�
 
 pub loop-i-preserved : goal.loop-i-preserved
 loop-i-preserved c =
-    let bs = list_of c.args.borders.now in
+    let bs = c.args.borders.now.items in
     let rs₀ = c.args.rows.now in
     let rs = c.loop-i.rows in
     let i = c.loop-i.i in
@@ -68,7 +67,7 @@ loop-i-preserved c =
 
 pub returns : goal.returns
 returns c =
-    let bs = list_of c.args.borders.now in
+    let bs = c.args.borders.now.items in
     let past = c.loop-i-test.false in
     let all = c.loop-i.invariant in
     let v = seen c.loop-i.rows in

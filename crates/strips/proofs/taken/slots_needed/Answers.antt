@@ -1,53 +1,20 @@
-use Rattle.std.proofs.Common.{◌≡◌, ℕ, suc, ◌+◌, ◌-◌, ◌*◌, ◌^◌, ◌≤◌, List, ℤ, sym, ap, ◌∙◌, subst, arith}
+use Rattle.std.proofs.Common.{◌^◌, ◌∙◌, refl, arith, rules, tests}
+use Rattle.std.proofs.lemmas.Iterator.{YieldsList-from_range, YieldsList-from_map}
+use Rattle.std.proofs.lemmas.Iterator.Adapters.{fits_from_length, at_most_from_yields_List}
+use Rattle.std.proofs.lemmas.Iterator.Consumers.{sum_from_yields_List}
+use Rattle.std.proofs.lemmas.List.FromFn.{length-range_with_len}
 use Rattle.turning.specs.Limits.{max_edge}
-use Rattle.chart.specs.Linework.{Linework, lines_of}
-use Rattle.strips.specs.Borders.{slots_of, slots_taken}
-use Rattle.strips.specs.Cuts.{list_of}
-use Rattle.strips.proofs.Planting.{taken_none, taken_more}
+use Rattle.chart.specs.Linework.{lines_of}
+use Rattle.strips.specs.Borders.{slots_of}
+use Rattle.strips.proofs.Planting.{taken_summed}
 use Rattle.strips.proofs.taken.slots_needed.Goals as goal
 
-abbrev CountedTo : List ℤ → Linework → ℕ → ℕ → Type 0
-CountedTo bs l i count = (count ≡ slots_taken bs l i) × (count ≤ 2 ^ 17 * i)
-
-pub loop-e-init : goal.loop-e-init
-loop-e-init g c i z =
-    let bs = list_of c.args.borders.now in
-    let lines = lines_of g.C.Turning.turn g.C.Chart.points c.args.chart.now in
-    let same : 0 ≡ i = omega arith in
-    subst (λ k. CountedTo bs lines k 0) same (sym (taken_none bs lines), omega arith)
-
-pub overflow_add-count : goal.overflow_add-count
-overflow_add-count g c =
-    let low = c.loop-e.auto.e in
-    let past = c.loop-e.invariant (c.loop-e.e - 1) (omega arith) in
-    let few = c.slots_of-count.ensures.few in
-    omega (arith, past.1, few)
-
--- one edge more is counted
-counted : (bs : List ℤ) (l : Linework) (j i e count more : ℕ) → suc j ≡ e → e + 1 ≡ suc i → CountedTo bs l j count → more ≡ slots_of bs l e → more ≤ 2 ^ 17 → CountedTo bs l i (count + more)
-counted bs l j i e count more a b past is few =
-    let same : suc j ≡ i = omega arith in
-    let step = taken_more bs l j in
-    let here : more ≡ slots_of bs l (suc j) = is ∙ ap (slots_of bs l) (sym a) in
-    subst (λ k. CountedTo bs l k (count + more)) same (sum count more (slots_taken bs l j) (slots_taken bs l (suc j)) (slots_of bs l (suc j)) past.0 here step, bound j past.1)
-  where
-    sum : (c m t t' s : ℕ) → c ≡ t → m ≡ s → t' ≡ s + t → c + m ≡ t'
-    sum c m t t' s p q r = omega arith
-
-    bound : (j : ℕ) → count ≤ 2 ^ 17 * j → count + more ≤ 2 ^ 17 * suc j
-    bound j p = omega arith
-
-pub loop-e-preserved : goal.loop-e-preserved
-loop-e-preserved g c i z =
-    let bs = list_of c.args.borders.now in
-    let lines = lines_of g.C.Turning.turn g.C.Chart.points c.args.chart.now in
-    let e = c.loop-e.e in
-    let low = c.loop-e.auto.e in
-    let e-is : suc (e - 1) ≡ e = omega arith in
-    counted bs lines (e - 1) i e c.loop-e.count c.slots_of-count.result e-is z (c.loop-e.invariant (e - 1) (sym e-is)) c.slots_of-count.ensures.taken c.slots_of-count.ensures.few
+pub sum-requires-clause-fits : goal.sum-requires-clause-fits
+sum-requires-clause-fits g c =
+    fits_from_length _ _ max_edge (2 ^ 32) (at_most_from_yields_List (YieldsList-from_range 1 4096 max_edge (cc) refl) (omega (arith, length-range_with_len 1 max_edge))) c.map.ensures.closure (omega arith) (λ e r q k. (search rules, omega arith))
 
 pub returns : goal.returns
 returns g c =
-    let past = c.loop-e-test.false in
-    let end : c.loop-e.e ≡ suc max_edge = omega arith in
-    (c.loop-e.invariant max_edge end).0
+    let slots_each = slots_of c.args.borders.now.items (lines_of g.C.Turning.turn g.C.Chart.points c.args.chart.now) in
+    sum_from_yields_List c.map.result c.sum.result c.sum.ensures.ran (YieldsList-from_map _ slots_each (YieldsList-from_range 1 4096 max_edge (cc) refl) c.map.ensures.closure (λ e r q k. search (rules, tests)))
+    ∙ taken_summed c.args.borders.now.items (lines_of g.C.Turning.turn g.C.Chart.points c.args.chart.now) max_edge

@@ -1,21 +1,20 @@
-use Rattle.std.proofs.Common.{◌≡◌, true, pos, neg_ℤ, Some, sym, ap, ◌∙◌, arith, w16, w32, SFits, rules}
-use lib.Signed.{lt_z}
+use Rattle.std.proofs.Common.{◌≡◌, true, neg_ℤ, Some, sym, ap, ◌∙◌, arith, w16, w32, SFits, rules}
 use Rattle.std.proofs.lemmas.Int.{ints, to_z-of_z}
 use Rattle.turning.specs.Limits.{max_edge}
 use Rattle.turning.proofs.Names.{minus_back}
 use Rattle.halfedges.specs.View.{seen}
 use Rattle.halfedges.specs.Rows.{turn_of, points_of, lines_in}
 use Rattle.strips.specs.Borders.{strip_of}
-use Rattle.strips.specs.Cuts.{list_of}
 use Rattle.strips.specs.Sheets.{lawful_of}
 use Rattle.strips.proofs.Homes.{home_by, somewhere}
+use Rattle.strips.proofs.Standing.{kept_sound}
 use Rattle.strips.proofs.sheet.Sheet.home.Goals as goal
 
 pub overflow_sub-opposite : goal.overflow_sub-opposite
 overflow_sub-opposite c =
     let s = c.args.self.now in
     let rs = s.rows.at.now in
-    let law = lawful_of (list_of s.borders) rs s.ok in
+    let law = lawful_of s.borders.items rs s.ok in
     let bits = to_z-of_z w16 c.args.h c.ranges.h in
     let held : (turn_of (seen rs)).held c.args.h ≡ true = ap (turn_of (seen rs)).held (sym bits) ∙ sym c.if-not-holds.ensures in
     omega (arith, ints, law.low c.args.h held, law.high c.args.h held)
@@ -25,7 +24,7 @@ returns-in_default-point c =
     let s = c.args.self.now in
     let rs = s.rows.at.now in
     let h = c.args.h in
-    let law = lawful_of (list_of s.borders) rs s.ok in
+    let law = lawful_of s.borders.items rs s.ok in
     let bits = to_z-of_z w16 h c.ranges.h in
     let held : (turn_of (seen rs)).held h ≡ true = ap (turn_of (seen rs)).held (sym bits) ∙ sym c.if-not-holds.ensures in
     let back = minus_back h c.ranges.h (omega (arith, ints, law.low h held, law.high h held)) in
@@ -38,7 +37,7 @@ returns c =
     let h = c.args.h in
     let p = c.in-Some.p in
     let q = c.in-Some-point.q in
-    let law = lawful_of (list_of s.borders) rs s.ok in
+    let law = lawful_of s.borders.items rs s.ok in
     let bits = to_z-of_z w16 h c.ranges.h in
     let held : (turn_of (seen rs)).held h ≡ true = ap (turn_of (seen rs)).held (sym bits) ∙ sym c.if-not-holds.ensures in
     let back = minus_back h c.ranges.h (omega (arith, ints, law.low h held, law.high h held)) in
@@ -46,7 +45,7 @@ returns c =
     let there : points_of (seen rs) (neg_ℤ h) ≡ Some q = ap (points_of (seen rs)) (sym back) ∙ sym c.point-2.ensures ∙ c.in-Some-point.is in
     let px : SFits w32 p.x = search rules in
     let qx : SFits w32 q.x = search rules in
-    let a = c.strip_of-here.ensures ∙ ap (strip_of (list_of s.borders)) (to_z-of_z w32 p.x px) in
-    let b = c.strip_of-there.ensures ∙ ap (strip_of (list_of s.borders)) (to_z-of_z w32 q.x qx) in
+    let a = c.strip_of-here.ensures ∙ ap (strip_of s.borders.items) (to_z-of_z w32 p.x px) in
+    let b = c.strip_of-there.ensures ∙ ap (strip_of s.borders.items) (to_z-of_z w32 q.x qx) in
     c.home_between.ensures
-    ∙ home_by max_edge (list_of s.borders) (lines_in (seen rs)) law c.args.strip p q h held here there _ _ a b _ (ap (lt_z (pos 0)) bits)
+    ∙ home_by max_edge s.borders.items (lines_in (seen rs)) (kept_sound s.borders.items rs s.ok) c.args.strip p q h held here there _ _ a b

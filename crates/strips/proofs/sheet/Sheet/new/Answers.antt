@@ -1,53 +1,14 @@
-use Rattle.std.proofs.Common.{◌≡◌, ◌≤◌, false, leb, length, sym, ap, ◌∙◌, subst, arith}
-use Rattle.std.proofs.lemmas.Bool.Decides.{leb_tells}
-use Rattle.turning.specs.Limits.{max_edge, slots}
-use Rattle.halfedges.specs.View.{seen}
-use Rattle.halfedges.specs.Rows.{lines_in}
-use Rattle.halfedges.specs.Nothing.{short_lines}
-use Rattle.halfedges.proofs.Blank.{blank_lines}
+use Rattle.std.proofs.Common.{ap}
 use Rattle.strips.specs.Borders.{rising}
-use Rattle.strips.specs.Cuts.{list_of}
-use Rattle.strips.specs.Sheets.{Stripped, Kept}
-use Rattle.strips.proofs.Standing.{blank_stripped}
+use Rattle.strips.proofs.Standing.{freed_kept, freed_lines}
 use Rattle.strips.proofs.sheet.Sheet.new.Goals as goal
-use Rattle.strips.proofs.sheet.Sheet.new.Goals.{then-memory-ge-SLOTS, else-memory-ge-SLOTS}
 
 pub invariant_of-result : goal.invariant_of-result
 invariant_of-result c =
-    let rs = c.if-memory-ge-SLOTS.memory in
-    let bs = list_of c.none.result in
-    let kept : Kept bs rs = elim c.if-memory-ge-SLOTS.branch [
-      | then-memory-ge-SLOTS w ↦ λ long.
-          let freed = w.free_all.new.rows in
-          let is : freed ≡ rs = sym w.memory-is in
-          let l : slots ≤ length freed = subst (λ x. slots ≤ length x) (sym is) long in
-          subst (Stripped max_edge slots bs) is (blank_stripped bs freed w.free_all.ensures l)
-      | else-memory-ge-SLOTS w ↦ λ long. absurd (let short = w.if-memory-ge-SLOTS.false in let same = ap length w.memory-is in omega arith)
-    ] in
-    record { ok = ∣ kept ∣₁; rises = ap rising c.none.ensures }
+    let e = c.free_rows.ensures in
+    record { ok = ∣ freed_kept _ c.free_rows.new.rows.at.now e.length e.freed c.none.result.items ∣₁; rises = ap rising c.none.ensures }
 
 pub returns : goal.returns
 returns c =
-    let rs = c.if-memory-ge-SLOTS.memory in
-    elim c.if-memory-ge-SLOTS.branch [
-      | then-memory-ge-SLOTS w ↦
-          let freed = w.free_all.new.rows in
-          let long = w.if-memory-ge-SLOTS.true in
-          let same : length freed ≡ length c.args.memory.now = w.free_all.auto.rows in
-          let l : slots ≤ length freed = omega arith in
-          record {
-            empty = ap (λ x. lines_in (seen x)) w.memory-is ∙ blank_lines freed w.free_all.ensures l;
-            uncut = c.none.ensures;
-            length = ap length w.memory-is ∙ same;
-            left = λ short. absurd (omega arith);
-          }
-      | else-memory-ge-SLOTS w ↦
-          let short = w.if-memory-ge-SLOTS.false in
-          let e : leb slots (length c.args.memory.now) ≡ false = grind (arith, leb_tells slots (length c.args.memory.now)) in
-          record {
-            empty = ap (λ x. lines_in (seen x)) w.memory-is ∙ short_lines max_edge slots c.args.memory.now e;
-            uncut = c.none.ensures;
-            length = ap length w.memory-is;
-            left = λ _. w.memory-is;
-          }
-    ]
+    let e = c.free_rows.ensures in
+    record { empty = freed_lines _ c.free_rows.new.rows.at.now e.length e.freed; uncut = c.none.ensures; length = e.length; left = e.left }

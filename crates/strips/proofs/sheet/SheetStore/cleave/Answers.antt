@@ -6,7 +6,6 @@ use Rattle.chart.specs.Changes.{may_cleave}
 use Rattle.halfedges.specs.declared.halfedge.Halfedge.{Halfedge}
 use Rattle.halfedges.specs.View.{seen}
 use Rattle.halfedges.specs.Rows.{lines_in}
-use Rattle.strips.specs.Cuts.{list_of}
 use Rattle.strips.specs.Sheets.{fits_of}
 use Rattle.strips.proofs.Standing.{cleavable, ends_somewhere, same_frame}
 use Rattle.strips.proofs.sheet.SheetStore.cleave.Goals as goal
@@ -20,7 +19,7 @@ pub returns-in_default : goal.returns-in_default
 returns-in_default c =
     let a = c.args in
     let s = a.self.now in
-    let bs = list_of s.borders in
+    let bs = s.borders.items in
     let rs = s.rows.at.now in
     let may = sym (told bs rs a.edge a.east a.at c.has_room-fits.result true c.if-not-may_cleave.ensures c.has_room-fits.ensures) in
     absurd (ends_somewhere bs rs s.ok a.edge a.east a.at may (sym c.east_end.ensures ∙ c.in_default.is))
@@ -29,7 +28,7 @@ pub cleave_through-requires : goal.cleave_through-requires
 cleave_through-requires c =
     let a = c.args in
     let s = a.self.now in
-    let bs = list_of s.borders in
+    let bs = s.borders.items in
     let rs = s.rows.at.now in
     let may = sym (told bs rs a.edge a.east a.at c.has_room-fits.result true c.if-not-may_cleave.ensures c.has_room-fits.ensures) in
     let h = cleavable bs rs s.ok a.edge a.east a.at c.in-Some.to may (sym c.east_end.ensures ∙ c.in-Some.is) in
@@ -40,12 +39,12 @@ invariant_of-self c = record { ok = ∣ (λ _. c.cleave_through.ensures.stripped
 
 pub returns : goal.returns
 returns c = record {
-  told = told (list_of c.args.self.now.borders) c.args.self.now.rows.at.now c.args.edge c.args.east c.args.at c.has_room-fits.result true c.if-not-may_cleave.ensures c.has_room-fits.ensures;
+  told = told c.args.self.now.borders.items c.args.self.now.rows.at.now c.args.edge c.args.east c.args.at c.has_room-fits.result true c.if-not-may_cleave.ensures c.has_room-fits.ensures;
   changed = λ _. c.cleave_through.ensures.lines;
   framed = λ _.
       let a = c.args in
       let s = a.self.now in
-      let bs = list_of s.borders in
+      let bs = s.borders.items in
       let rs = s.rows.at.now in
       let may = sym (told bs rs a.edge a.east a.at c.has_room-fits.result true c.if-not-may_cleave.ensures c.has_room-fits.ensures) in
       let h = cleavable bs rs s.ok a.edge a.east a.at c.in-Some.to may (sym c.east_end.ensures ∙ c.in-Some.is) in

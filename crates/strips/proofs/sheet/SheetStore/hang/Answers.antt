@@ -6,7 +6,6 @@ use Rattle.chart.specs.Changes.{may_hang}
 use Rattle.halfedges.specs.declared.halfedge.Halfedge.{Halfedge}
 use Rattle.halfedges.specs.View.{seen}
 use Rattle.halfedges.specs.Rows.{lines_in, hung_between}
-use Rattle.strips.specs.Cuts.{list_of}
 use Rattle.strips.specs.Sheets.{fits_of}
 use Rattle.strips.proofs.Standing.{hangable, same_frame}
 use Rattle.strips.proofs.sheet.SheetStore.hang.Goals as goal
@@ -20,7 +19,7 @@ pub hang_through-requires : goal.hang_through-requires
 hang_through-requires c =
     let a = c.args in
     let s = a.self.now in
-    let bs = list_of s.borders in
+    let bs = s.borders.items in
     let rs = s.rows.at.now in
     let w = c.west_to_east in
     let may = sym (told bs rs a.edge a.a a.b c.has_room-fits.result true c.if-not-may_hang.ensures c.has_room-fits.ensures) in
@@ -32,12 +31,12 @@ invariant_of-self c = record { ok = ∣ (λ _. c.hang_through.ensures.stripped) 
 
 pub returns : goal.returns
 returns c = record {
-  told = told (list_of c.args.self.now.borders) c.args.self.now.rows.at.now c.args.edge c.args.a c.args.b c.has_room-fits.result true c.if-not-may_hang.ensures c.has_room-fits.ensures;
+  told = told c.args.self.now.borders.items c.args.self.now.rows.at.now c.args.edge c.args.a c.args.b c.has_room-fits.result true c.if-not-may_hang.ensures c.has_room-fits.ensures;
   changed = λ _. c.hang_through.ensures.lines ∙ ap₂ (λ x y. hung_between c.args.edge x y (lines_in (seen c.args.self.now.rows.at.now))) c.west_to_east.ensures.west c.west_to_east.ensures.east;
   framed = λ _.
       let a = c.args in
       let s = a.self.now in
-      let bs = list_of s.borders in
+      let bs = s.borders.items in
       let rs = s.rows.at.now in
       let w = c.west_to_east in
       let may = sym (told bs rs a.edge a.a a.b c.has_room-fits.result true c.if-not-may_hang.ensures c.has_room-fits.ensures) in

@@ -1,5 +1,4 @@
 use Rattle.std.proofs.Common.{sym, rules}
-use Rattle.strips.specs.Cuts.{list_of}
 use Rattle.strips.proofs.Standing.{kept_out, held_long, same_frame}
 use Rattle.strips.proofs.sheet.SheetStore.lift.Goals as goal
 
@@ -7,7 +6,7 @@ pub lift_through-requires : goal.lift_through-requires
 lift_through-requires c =
     let s = c.args.self.now in
     let here = sym c.if-not-holds_edge.ensures in
-    record { stripped = kept_out (list_of s.borders) s.rows.at.now s.ok (held_long s.rows.at.now _ here); here = here }
+    record { stripped = kept_out s.borders.items s.rows.at.now s.ok (held_long s.rows.at.now _ here); here = here }
 
 pub invariant_of-self : goal.invariant_of-self
 invariant_of-self c = record { ok = ∣ (λ _. c.lift_through.ensures.stripped) ∣₁; rises = c.args.self.now.rises }
@@ -20,6 +19,6 @@ returns c = record {
       let s = c.args.self.now in
       let rs = s.rows.at.now in
       let here = sym c.if-not-holds_edge.ensures in
-      same_frame (list_of s.borders) rs _ (held_long rs _ here) c.lift_through.ensures.stripped;
+      same_frame s.borders.items rs _ (held_long rs _ here) c.lift_through.ensures.stripped;
   kept = search rules;
 }

@@ -11,8 +11,8 @@ mod tests {
     use questions::counting::{counts, rounds_of};
     use questions::loops::{loop_length, same_loop};
     use questions::pieces::same_piece;
-    use runs::calls::{Answer, Call, Item};
-    use runs::sheets::{SheetCall, SheetItem, run_both};
+    use runs::calls::{Call, Item};
+    use runs::sheets::{SheetCall, run_both};
     use std::process::Abort;
     use std::test::Fail;
     use strips::home::Home;
@@ -308,18 +308,8 @@ mod tests {
         Ok(())
     }
 
-    fn pending(call: Call) -> Item {
-        Item {
-            call,
-            answer: Answer::Pending,
-        }
-    }
-
-    fn on_sheet(call: SheetCall) -> SheetItem {
-        SheetItem {
-            call,
-            answer: Answer::Pending,
-        }
+    fn pending<C: Drop>(call: C) -> Item<C> {
+        Item { call, answer: None }
     }
 
     fn first() -> Call {
@@ -346,16 +336,16 @@ mod tests {
         let mut sheet = Sheet::new(strips.as_mut_slice());
         let mut items = [pending(first()), pending(second()), pending(second())];
         let mut calls = [
-            on_sheet(SheetCall::Edit(first())),
-            on_sheet(SheetCall::Cut(2)),
-            on_sheet(SheetCall::Edit(second())),
-            on_sheet(SheetCall::Knit(3)),
-            on_sheet(SheetCall::Edit(second())),
+            pending(SheetCall::Edit(first())),
+            pending(SheetCall::Cut(2)),
+            pending(SheetCall::Edit(second())),
+            pending(SheetCall::Knit(3)),
+            pending(SheetCall::Edit(second())),
         ];
         run_both(&mut sheet, &mut calls, &mut table, &mut items);
-        assert_eq!(rt; items[2].answer, Answer::Refused(Refusal::NumberInUse));
-        assert_eq!(rt; calls[1].answer, Answer::Done);
-        assert_eq!(rt; calls[3].answer, Answer::Refused(Refusal::WrongBorder));
+        assert_eq!(rt; items[2].answer, Some(Err(Refusal::NumberInUse)));
+        assert_eq!(rt; calls[1].answer, Some(Ok(())));
+        assert_eq!(rt; calls[3].answer, Some(Err(Refusal::WrongBorder)));
         assert_eq!(rt; calls[4].answer, items[2].answer);
         check_loop(&rt, &sheet, &[2, -2, 1, -1]);
         check_loop(&rt, &table, &[2, -2, 1, -1]);

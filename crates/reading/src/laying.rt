@@ -3,7 +3,6 @@ ghost use Rattle.std.specs.Prelude.{◌≡◌, ◌-◌, ◌≤◌, length, repli
 ghost use Rattle.turning.specs.Limits.{max_edge, slots, marks_for, line_for};
 ghost use Rattle.halfedges.specs.View.{seen};
 ghost use Rattle.halfedges.specs.Rows.{lines_in};
-ghost use Rattle.strips.specs.Cuts.{list_of};
 ghost use Rattle.file.specs.Shapes.{Shaped};
 ghost use Rattle.file.specs.Verdict.{shape_verdict, told_lines};
 ghost use Rattle.told.specs.Tells.{borders_in, Standing};
@@ -35,7 +34,7 @@ fn lay_chart(sheet: &mut Sheet, told: &Told, bytes: &[u8], count: u16, borders: 
     requires chart { lines_by told.now.names.now ≡ told_lines bytes.now }
     requires room { length borders.old ≡ count - 1 }
     requires long { slots ≤ length sheet.old.rows.at.now }
-    ensures borders { list_of sheet.new.borders ≡ borders_in bytes.now }
+    ensures borders { sheet.new.borders.items ≡ borders_in bytes.now }
     ensures lines { lines_in (seen sheet.new.rows.at.now) ≡ told_lines bytes.now }
     ensures length { length sheet.new.rows.at.now ≡ length sheet.old.rows.at.now }
 {
@@ -56,7 +55,7 @@ fn lay_told(
     requires line { length line.old ≡ line_for max_edge }
     requires empty { (length entries.old ≡ marks_for max_edge) × (entries.old ≡ replicate (length entries.old) absent) }
     requires room { length borders.old ≡ 31 }
-    ensures borders { list_of sheet.new.borders ≡ borders_in bytes.now }
+    ensures borders { sheet.new.borders.items ≡ borders_in bytes.now }
     ensures lines { lines_in (seen sheet.new.rows.at.now) ≡ told_lines bytes.now }
     ensures length { length sheet.new.rows.at.now ≡ length sheet.old.rows.at.now }
 {
@@ -72,7 +71,7 @@ pub(crate) fn lay_out(sheet: &mut Sheet, bytes: &[u8], line: &mut [i16])
     requires accepted { shape_verdict bytes.now ≡ None }
     requires long { slots ≤ length sheet.old.rows.at.now }
     requires line { length line.old ≡ line_for max_edge }
-    ensures borders { list_of sheet.new.borders ≡ borders_in bytes.now }
+    ensures borders { sheet.new.borders.items ≡ borders_in bytes.now }
     ensures lines { lines_in (seen sheet.new.rows.at.now) ≡ told_lines bytes.now }
     ensures length { length sheet.new.rows.at.now ≡ length sheet.old.rows.at.now }
 {

@@ -8,7 +8,6 @@ ghost use Rattle.search.specs.Buffers.{enough, given_back};
 ghost use Rattle.chart.specs.Linework.{no_lines};
 ghost use Rattle.halfedges.specs.View.{seen};
 ghost use Rattle.halfedges.specs.Rows.{turn_of, lines_in};
-ghost use Rattle.strips.specs.Cuts.{list_of};
 ghost use Rattle.file.specs.Lines.{flat};
 ghost use Rattle.file.specs.Places.{answered};
 ghost use Rattle.reading.specs.Reading.{sheet_verdict, read_verdict, Read};
@@ -45,9 +44,9 @@ fn read_into(
     line: &mut [i16],
 ) -> Result<(), Fault>
     requires buffers { (length marks.old ≡ marks_for max_edge) × (length line.old ≡ line_for max_edge) }
-    requires empty { (list_of sheet.old.borders ≡ []) × (lines_in (seen sheet.old.rows.at.now) ≡ no_lines) }
+    requires empty { (sheet.old.borders.items ≡ []) × (lines_in (seen sheet.old.rows.at.now) ≡ no_lines) }
     ensures answer { result ≡ answered (sheet_verdict (nat_le slots (length sheet.old.rows.at.now)) bytes.now) tt }
-    ensures read { Read result bytes.now (list_of sheet.new.borders) sheet.new.rows.at.now }
+    ensures read { Read result bytes.now sheet.new.borders.items sheet.new.rows.at.now }
     ensures length { length sheet.new.rows.at.now ≡ length sheet.old.rows.at.now }
 {
     if sheet.ready().is_err() {
@@ -80,9 +79,9 @@ fn read_within(
     line: &mut [i16],
 ) -> Result<(), Fault>
     requires buffers { (length marks.old ≡ marks_for max_edge) × (length line.old ≡ line_for max_edge) }
-    requires empty { (list_of sheet.old.borders ≡ []) × (lines_in (seen sheet.old.rows.at.now) ≡ no_lines) }
+    requires empty { (sheet.old.borders.items ≡ []) × (lines_in (seen sheet.old.rows.at.now) ≡ no_lines) }
     ensures answer { result ≡ answered (sheet_verdict (nat_le slots (length sheet.old.rows.at.now)) bytes.now) tt }
-    ensures read { Read result bytes.now (list_of sheet.new.borders) sheet.new.rows.at.now }
+    ensures read { Read result bytes.now sheet.new.borders.items sheet.new.rows.at.now }
     ensures length { length sheet.new.rows.at.now ≡ length sheet.old.rows.at.now }
     ensures zero { marks.new ≡ replicate (length marks.old) 0 }
     ensures blank { line.new ≡ replicate (length line.old) (pos 0) }
@@ -100,7 +99,7 @@ pub fn read(
     line: &mut [i16],
 ) -> Result<(), Fault>
     ensures answer { result ≡ answered (read_verdict (enough max_edge marks.old line.old) (nat_le slots (length sheet.old.rows.at.now)) bytes.now) tt }
-    ensures read { Read result bytes.now (list_of sheet.new.borders) sheet.new.rows.at.now }
+    ensures read { Read result bytes.now sheet.new.borders.items sheet.new.rows.at.now }
     ensures length { length sheet.new.rows.at.now ≡ length sheet.old.rows.at.now }
     ensures zero { marks.new ≡ given_back (enough max_edge marks.old line.old) (marks_for max_edge) 0 marks.old }
     ensures blank { line.new ≡ given_back (enough max_edge marks.old line.old) (line_for max_edge) (pos 0) line.old }

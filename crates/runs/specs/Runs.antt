@@ -1,5 +1,5 @@
 -- Runs of edits over any store, and what is promised of them. Assumes nothing.
-use Rattle.std.specs.Prelude.{◌≡◌, ℕ, pos, Ok, Err, vec_items}
+use Rattle.std.specs.Prelude.{◌≡◌, ℕ, pos, Some, Err, Option, vec_items}
 use Rattle.turning.specs.Limits.{max_edge, marks_for, line_for}
 use Rattle.turning.specs.declared.refusal.Refusal.TheVariants.{LoopsOfOnePiece}
 use Rattle.turning.specs.Refusals.{Outcome, outcome}
@@ -9,8 +9,6 @@ use Rattle.chart.specs.Stores.{Meaning}
 use Rattle.edits.specs.Edits.{Edit, starts, sprouts, joins, splits, removes, questions, made, Changed, KeepsFlat, Judged}
 use Rattle.runs.specs.declared.calls.Call.{Call}
 use Rattle.runs.specs.declared.calls.Call.TheVariants.{Start, Sprout, Join, Split, Remove}
-use Rattle.runs.specs.declared.calls.Answer.{Answer}
-use Rattle.runs.specs.declared.calls.Answer.TheVariants.{Done, Refused}
 use Rattle.runs.specs.declared.calls.Item.{Item}
 
 -- a call as an edit, with what its buffers hold
@@ -21,10 +19,13 @@ edit_of (Join edge at marks line) = joins edge at.c at.d (vec_items marks) (vec_
 edit_of (Split edge east p) = splits edge east p
 edit_of (Remove edge) = removes edge
 
--- an outcome as the answer of an item
-abbrev pub told : Outcome → Answer
-told (Ok _) = Done
-told (Err x) = Refused x
+-- what an item holds for an answer: the outcome of its call, or nothing while that is to come
+abbrev pub Answer : Type 0
+Answer = Option Outcome
+
+-- the call has its answer, and what is said of the outcome holds
+abbrev pub Answered : Answer → (Outcome → Type 0) → Type 0
+Answered a Says = (r : Outcome) × ((a ≡ Some r) × Says r)
 
 -- the edit as it stands after: the buffers of a join are given back
 abbrev pub left : ℕ → Edit → Edit
@@ -34,22 +35,22 @@ left n (joins e c d marks line) = joins e c d (given_back (enough n marks line) 
 left n (splits e f p) = splits e f p
 left n (removes e) = removes e
 
--- the edit q at m: its answer a, the edit and the meaning after; that a join gets the refusal for its loops where it should; and that flat line work stays flat
-pub record Carried (n : ℕ) (m : Meaning) (q : Edit) (a : Answer) (q' : Edit) (m' : Meaning) : Type 0 where
-  pub answered : a ≡ told (outcome (questions n m q))
+-- the edit q at m: its outcome r, the edit and the meaning after; that a join gets the refusal for its loops where it should; and that flat line work stays flat
+pub record Carried (n : ℕ) (m : Meaning) (q : Edit) (r : Outcome) (q' : Edit) (m' : Meaning) : Type 0 where
+  pub answered : r ≡ outcome (questions n m q)
   pub changed : Changed (outcome (questions n m q)) (made q m.lines) m m'
   pub lent : q' ≡ left n q
-  pub judged : Judged n m q (a ≡ Refused LoopsOfOnePiece)
+  pub judged : Judged n m q (r ≡ Err LoopsOfOnePiece)
   pub flat : KeepsFlat n m m'
 
 -- one call of a run
-abbrev pub Step : Meaning → Item → Item → Meaning → Type 0
-Step m x y m' = Carried max_edge m (edit_of x.call) y.answer (edit_of y.call) m'
+abbrev pub Step : Meaning → Item Call → Item Call → Meaning → Type 0
+Step m x y m' = Answered y.answer (λ r. Carried max_edge m (edit_of x.call) r (edit_of y.call) m')
 
 -- vertices and loops are together the edges and twice the pieces
 abbrev pub FlatAt : Meaning → Type 0
 FlatAt m = Flat max_edge m.lines.turn
 
 -- one call of a run, and the line work is flat after it
-abbrev pub FlatStep : Meaning → Item → Item → Meaning → Type 0
+abbrev pub FlatStep : Meaning → Item Call → Item Call → Meaning → Type 0
 FlatStep m x y m' = Step m x y m' × FlatAt m'

@@ -3,7 +3,7 @@ ghost use Rattle.std.specs.Prelude.{◌≡◌};
 ghost use Rattle.turning.specs.Limits.{max_edge};
 ghost use Rattle.chart.specs.Stores.{meant};
 ghost use Rattle.runs.specs.Chains.{Chain};
-ghost use Rattle.runs.specs.Runs.{edit_of, told as told_as, Carried, Step, FlatStep, FlatAt};
+ghost use Rattle.runs.specs.Runs.{edit_of, Carried, Step, FlatStep, FlatAt};
 
 use chart::Store;
 use chart::point::Point;
@@ -46,35 +46,21 @@ pub enum Call {
     },
 }
 
-// What a call answered, or that it is still to come.
-#[derive(Clone, Copy, PartialEq, Eq, Debug)]
-pub enum Answer {
-    Pending,
-    Done,
-    Refused(Refusal),
-}
+// What a call answered; none while it is still to come.
+pub type Answer = Option<Result<(), Refusal>>;
 
 // A call, and the place for its answer.
 #[derive(Drop)]
-pub struct Item {
-    pub call: Call,
+pub struct Item<C> {
+    pub call: C,
     pub answer: Answer,
 }
 
-pub(crate) fn told(r: Result<(), Refusal>) -> Answer
-    ensures { result ≡ told_as r }
-{
-    match r {
-        Ok(()) => Answer::Done,
-        Err(x) => Answer::Refused(x),
-    }
-}
-
 // Carries out one call.
-pub fn carry<S: Store>(store: &mut S, call: &mut Call) -> Answer
+pub fn carry<S: Store>(store: &mut S, call: &mut Call) -> Result<(), Refusal>
     ensures { Carried max_edge (meant S.Turning.turn S.Chart.points S.Store.frame S.Store.fits store.old) (edit_of call.old) result (edit_of call.new) (meant S.Turning.turn S.Chart.points S.Store.frame S.Store.fits store.new) }
 {
-    let r = match *call {
+    match *call {
         Call::Start { edge, p, q } => edits::start(store, edge, p, q),
         Call::Sprout { edge, corner, p } => edits::sprout(store, edge, corner, p),
         Call::Join {
@@ -92,16 +78,15 @@ pub fn carry<S: Store>(store: &mut S, call: &mut Call) -> Answer
         ),
         Call::Split { edge, east, p } => edits::split(store, edge, east, p),
         Call::Remove { edge } => edits::remove(store, edge),
-    };
-    told(r)
+    }
 }
 
 // Every call is carried out as defined; and from a flat start the line work is flat after every call.
-pub fn run<S: Store>(store: &mut S, items: &mut [Item])
+pub fn run<S: Store>(store: &mut S, items: &mut [Item<Call>])
     ensures run { Chain Step (meant S.Turning.turn S.Chart.points S.Store.frame S.Store.fits store.old) items.old items.new (meant S.Turning.turn S.Chart.points S.Store.frame S.Store.fits store.new) }
     ensures flat { FlatAt (meant S.Turning.turn S.Chart.points S.Store.frame S.Store.fits store.old) → Chain FlatStep (meant S.Turning.turn S.Chart.points S.Store.frame S.Store.fits store.old) items.old items.new (meant S.Turning.turn S.Chart.points S.Store.frame S.Store.fits store.new) }
 {
     for item in items.iter_mut() {
-        item.answer = carry(store, &mut item.call);
+        item.answer = Some(carry(store, &mut item.call));
     }
 }

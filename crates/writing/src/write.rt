@@ -8,7 +8,6 @@ ghost use Rattle.chart.specs.Linework.{lines_of};
 ghost use Rattle.halfedges.specs.View.{seen};
 ghost use Rattle.halfedges.specs.Rows.{lines_in};
 ghost use Rattle.strips.specs.Borders.{strip_count};
-ghost use Rattle.strips.specs.Cuts.{list_of};
 ghost use Rattle.writing.specs.Written.{i32_bytes, written};
 ghost use Rattle.writing.specs.Lays.{all_sizes, sizes_bytes, head_bytes, body_bytes, laid_over};
 
@@ -25,8 +24,8 @@ use turning::refusal::Refusal;
 // Puts the sizes of all strips into the list, from its start; answers how many bytes the strips take.
 fn measure_all<C: Chart>(chart: &C, borders: &Borders, sizes: &mut [Sizes]) -> usize
     requires { length sizes.old ≡ max_strips }
-    ensures sizes { take (strip_count (list_of borders.now)) sizes.new ≡ all_sizes max_edge (list_of borders.now) (lines_of C.Turning.turn C.Chart.points chart.now) }
-    ensures long { result ≡ length (body_bytes max_edge (list_of borders.now) (lines_of C.Turning.turn C.Chart.points chart.now)) }
+    ensures sizes { take (strip_count borders.now.items) sizes.new ≡ all_sizes max_edge borders.now.items (lines_of C.Turning.turn C.Chart.points chart.now) }
+    ensures long { result ≡ length (body_bytes max_edge borders.now.items (lines_of C.Turning.turn C.Chart.points chart.now)) }
     ensures few { result ≤ 2 ^ 25 }
 {
     let mut total = 0;
@@ -52,8 +51,8 @@ fn write_sizes(part: &mut [u8], sizes: &[Sizes])
 
 // Writes the borders, four bytes each.
 fn write_borders(part: &mut [u8], borders: &Borders)
-    requires { length part.old ≡ 4 * length (list_of borders.now) }
-    ensures { part.new ≡ flat_map i32_bytes (list_of borders.now) }
+    requires { length part.old ≡ 4 * length borders.now.items }
+    ensures { part.new ≡ flat_map i32_bytes borders.now.items }
 {
     for k in 0..strip_count(borders) - 1 {
         let at = 4 * k as usize;
@@ -64,8 +63,8 @@ fn write_borders(part: &mut [u8], borders: &Borders)
 
 // Writes what stands before the strips.
 fn write_head(part: &mut [u8], borders: &Borders, sizes: &[Sizes])
-    requires { length part.old ≡ 2 + 4 * length sizes.now + 4 * length (list_of borders.now) }
-    ensures { part.new ≡ head_bytes (list_of borders.now) sizes.now }
+    requires { length part.old ≡ 2 + 4 * length sizes.now + 4 * length borders.now.items }
+    ensures { part.new ≡ head_bytes borders.now.items sizes.now }
 {
     let count = strip_count(borders).to_le_bytes();
     let from = 2 + 4 * sizes.len();
@@ -77,10 +76,10 @@ fn write_head(part: &mut [u8], borders: &Borders, sizes: &[Sizes])
 
 // Writes the strips, each over its own part.
 fn write_strips<C: Chart>(part: &mut [u8], chart: &C, borders: &Borders, sizes: &[Sizes])
-    requires sizes { sizes.now ≡ all_sizes max_edge (list_of borders.now) (lines_of C.Turning.turn C.Chart.points chart.now) }
+    requires sizes { sizes.now ≡ all_sizes max_edge borders.now.items (lines_of C.Turning.turn C.Chart.points chart.now) }
     requires few { length sizes.now ≤ max_strips }
-    requires long { length part.old ≡ length (body_bytes max_edge (list_of borders.now) (lines_of C.Turning.turn C.Chart.points chart.now)) }
-    ensures { part.new ≡ body_bytes max_edge (list_of borders.now) (lines_of C.Turning.turn C.Chart.points chart.now) }
+    requires long { length part.old ≡ length (body_bytes max_edge borders.now.items (lines_of C.Turning.turn C.Chart.points chart.now)) }
+    ensures { part.new ≡ body_bytes max_edge borders.now.items (lines_of C.Turning.turn C.Chart.points chart.now) }
 {
     let mut at = 0;
     for j in 0..sizes.len() {
@@ -92,8 +91,8 @@ fn write_strips<C: Chart>(part: &mut [u8], chart: &C, borders: &Borders, sizes: 
 
 // Writes any chart, cut at the borders.
 fn write_chart<C: Chart>(chart: &C, borders: &Borders, out: &mut [u8]) -> Result<usize, Refusal>
-    ensures answer { result ≡ asked ((nat_le (length (written max_edge (list_of borders.now) (lines_of C.Turning.turn C.Chart.points chart.now))) (length out.old), ShortOut) ∷ []) (length (written max_edge (list_of borders.now) (lines_of C.Turning.turn C.Chart.points chart.now))) }
-    ensures bytes { out.new ≡ laid_over (written max_edge (list_of borders.now) (lines_of C.Turning.turn C.Chart.points chart.now)) out.old }
+    ensures answer { result ≡ asked ((nat_le (length (written max_edge borders.now.items (lines_of C.Turning.turn C.Chart.points chart.now))) (length out.old), ShortOut) ∷ []) (length (written max_edge borders.now.items (lines_of C.Turning.turn C.Chart.points chart.now))) }
+    ensures bytes { out.new ≡ laid_over (written max_edge borders.now.items (lines_of C.Turning.turn C.Chart.points chart.now)) out.old }
 {
     let mut sizes = [Sizes {
         vertices: 0,
@@ -114,8 +113,8 @@ fn write_chart<C: Chart>(chart: &C, borders: &Borders, out: &mut [u8]) -> Result
 
 // Writes the sheet from the start of the buffer, and answers how many bytes it took; a buffer that is too short is left as it is.
 pub fn write(sheet: &Sheet, out: &mut [u8]) -> Result<usize, Refusal>
-    ensures answer { result ≡ asked ((nat_le (length (written max_edge (list_of sheet.now.borders) (lines_in (seen sheet.now.rows.at.now)))) (length out.old), ShortOut) ∷ []) (length (written max_edge (list_of sheet.now.borders) (lines_in (seen sheet.now.rows.at.now)))) }
-    ensures bytes { out.new ≡ laid_over (written max_edge (list_of sheet.now.borders) (lines_in (seen sheet.now.rows.at.now))) out.old }
+    ensures answer { result ≡ asked ((nat_le (length (written max_edge sheet.now.borders.items (lines_in (seen sheet.now.rows.at.now)))) (length out.old), ShortOut) ∷ []) (length (written max_edge sheet.now.borders.items (lines_in (seen sheet.now.rows.at.now)))) }
+    ensures bytes { out.new ≡ laid_over (written max_edge sheet.now.borders.items (lines_in (seen sheet.now.rows.at.now))) out.old }
 {
     let borders = sheet.borders();
     write_chart(sheet, &borders, out)

@@ -2,7 +2,6 @@ use Rattle.std.proofs.Common.{◌≡◌, true, false, leb, length, Err, sym, ref
 use Rattle.std.proofs.lemmas.Result.{err_from_is_err_and}
 use Rattle.std.proofs.lemmas.Bool.{leb-true}
 use Rattle.turning.specs.Limits.{max_edge, slots}
-use Rattle.strips.specs.Cuts.{list_of}
 use Rattle.file.specs.Lines.{flat}
 use Rattle.file.specs.Verdict.{told_lines}
 use Rattle.reading.specs.Reading.{Read}
@@ -29,7 +28,7 @@ returns-in_err-judge c =
     let p = err_from_is_err_and c.from_residual.result c.from_residual.ensures.1 in
     record {
       answer = p.1 ∙ ap Err p.2 ∙ answer_shape (leb slots (length rs)) long b _ no;
-      read = subst (λ r. Read r b (list_of sheet.borders) rs) (sym p.1) (c.requires.empty.0, c.requires.empty.1);
+      read = subst (λ r. Read r b sheet.borders.items rs) (sym p.1) (c.requires.empty.0, c.requires.empty.1);
       length = refl;
     }
 

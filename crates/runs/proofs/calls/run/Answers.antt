@@ -7,12 +7,12 @@ use Rattle.runs.proofs.calls.run.Goals as goal
 pub loop-item-preserved : goal.loop-item-preserved
 loop-item-preserved g c =
     chain_more Step _ c.args.items.now c.loop-item.items _ c.loop-item.item-index c.item-item.result _ _
-    c.loop-item.auto.items c.loop-item-test.true c.loop-item.invariant c.carry-item.ensures
+    c.loop-item.auto.items c.loop-item-test.true c.loop-item.invariant (c.carry.result, (refl, c.carry.ensures))
 
 pub returns : goal.returns
 returns g c =
     let whole = chain_all Step _ _ _ _ c.loop-item.item-index c.loop-item.auto.items c.loop-item-test.false c.loop-item.invariant in
-    record { run = whole; flat = λ f. chain_keeps Step FlatAt (λ m x y m' s. s.flat) f whole }
+    record { run = whole; flat = λ f. chain_keeps Step FlatAt (λ m x y m' s. s.1.1.flat) f whole }
 
 pub loop-item-init : goal.loop-item-init
 loop-item-init g c = (refl, over)

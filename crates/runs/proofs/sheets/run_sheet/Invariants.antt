@@ -1,4 +1,3 @@
-use Rattle.strips.specs.Cuts.{list_of}
 use Rattle.strips.specs.Sheets.{sheet_of}
 use Rattle.runs.specs.Sheets.{SheetStep}
 use Rattle.runs.proofs.Chained.{SoFar}
@@ -6,4 +5,4 @@ use Rattle.runs.proofs.sheets.run_sheet.Given as goal
 
 abbrev pub invariant-loop-item : goal.invariant-loop-item
 invariant-loop-item l =
-    SoFar SheetStep (sheet_of (list_of l.initial.sheet.borders) l.initial.sheet.rows.at.now) l.initial.items l.items (sheet_of (list_of l.sheet.borders) l.sheet.rows.at.now) l.item-index
+    SoFar SheetStep (sheet_of l.initial.sheet.borders.items l.initial.sheet.rows.at.now) l.initial.items l.items (sheet_of l.sheet.borders.items l.sheet.rows.at.now) l.item-index

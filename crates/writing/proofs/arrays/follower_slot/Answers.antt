@@ -6,7 +6,6 @@ use Rattle.turning.specs.Limits.{max_edge}
 use Rattle.chart.specs.Linework.{lines_of}
 use Rattle.search.specs.Marks.{Within, place}
 use Rattle.search.proofs.Marking.{place_below, held_within}
-use Rattle.strips.specs.Cuts.{list_of}
 use Rattle.writing.specs.Written.{starts_in, names_in}
 use Rattle.writing.proofs.CodeNames.{follower_in}
 use Rattle.writing.proofs.arrays.follower_slot.Goals as goal
@@ -32,7 +31,7 @@ bounds-slots-at g c =
 pub returns : goal.returns
 returns g c =
     let l = lines_of g.C.Turning.turn g.C.Chart.points c.args.chart.now in
-    let bs = list_of c.args.borders.now in
+    let bs = c.args.borders.now.items in
     let law = g.C.Turning.lawful c.args.chart.now in
     let h = c.args.h in
     let back = to_z-of_z w16 c.follower.result (record { sfits = c.follower.type_inv }) in

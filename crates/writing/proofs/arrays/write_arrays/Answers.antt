@@ -3,7 +3,6 @@ use Rattle.std.specs.List.{flat_map}
 use Rattle.flat.specs.Orbits.{◌∈◌}
 use Rattle.turning.specs.Limits.{max_edge}
 use Rattle.chart.specs.Linework.{lines_of}
-use Rattle.strips.specs.Cuts.{list_of}
 use Rattle.writing.specs.Written.{u16_bytes, i16_bytes, i32_bytes, follower_slot, start_of}
 use Rattle.writing.proofs.CodeParts.{four_parts}
 use Rattle.writing.proofs.CodeGather.{length_joined, arrays_are}
@@ -14,14 +13,14 @@ pub note_slots-requires : goal.note_slots-requires
 note_slots-requires g c =
     let l = lines_of g.C.Turning.turn g.C.Chart.points c.args.chart.now in
     record {
-      within = λ h m. in_strip_within max_edge (list_of c.args.borders.now) l (g.C.Turning.lawful c.args.chart.now) c.args.strip h (subst (λ zs. h ∈ zs) c.requires.names m);
+      within = λ h m. in_strip_within max_edge c.args.borders.now.items l (g.C.Turning.lawful c.args.chart.now) c.args.strip h (subst (λ zs. h ∈ zs) c.requires.names m);
       long = (c.requires.few, refl);
     }
 
 pub returns : goal.returns
 returns g c =
     let l = lines_of g.C.Turning.turn g.C.Chart.points c.args.chart.now in
-    let bs = list_of c.args.borders.now in
+    let bs = c.args.borders.now.items in
     let names = c.args.names.now in
     let firsts = c.args.firsts.now in
     let a = c.write_names.new.part in

@@ -5,7 +5,6 @@ use Rattle.std.proofs.lemmas.Int.{to_z-of_z}
 use Rattle.flat.specs.Orbits.{◌∈◌}
 use Rattle.turning.specs.Limits.{max_edge}
 use Rattle.chart.specs.Linework.{lines_of}
-use Rattle.strips.specs.Cuts.{list_of}
 use Rattle.writing.specs.Written.{u16_bytes, follower_slot}
 use Rattle.writing.specs.Gathers.{Slotted}
 use Rattle.writing.proofs.CodeParts.{element_more}
@@ -20,7 +19,7 @@ follower_slot-requires g c =
     let z = get_or names c.loop-k.k (pos 0) in
     let f : SFits w16 z = search rules in
     let held : l.turn.held z ≡ true =
-    in_strip_held max_edge (list_of c.args.borders.now) l (g.C.Turning.lawful c.args.chart.now) c.args.strip z (subst (λ zs. z ∈ zs) c.requires.names (element_in names c.loop-k.k c.loop-k-test.true)) in
+    in_strip_held max_edge c.args.borders.now.items l (g.C.Turning.lawful c.args.chart.now) c.args.strip z (subst (λ zs. z ∈ zs) c.requires.names (element_in names c.loop-k.k c.loop-k-test.true)) in
     record {
       slotted = subst (λ zs. Slotted max_edge zs c.args.slots.now) c.requires.names c.requires.slots;
       long = c.requires.long.1;
@@ -30,7 +29,7 @@ follower_slot-requires g c =
 pub loop-k-preserved : goal.loop-k-preserved
 loop-k-preserved g c =
     let l = lines_of g.C.Turning.turn g.C.Chart.points c.args.chart.now in
-    let slot : ℤ → ℕ = follower_slot max_edge (list_of c.args.borders.now) l c.args.strip in
+    let slot : ℤ → ℕ = follower_slot max_edge c.args.borders.now.items l c.args.strip in
     let k = c.loop-k.k in
     let z = get_or c.args.names.now k (pos 0) in
     let f : SFits w16 z = search rules in
@@ -42,6 +41,6 @@ loop-k-preserved g c =
 pub returns : goal.returns
 returns g c =
     let l = lines_of g.C.Turning.turn g.C.Chart.points c.args.chart.now in
-    let slot : ℤ → ℕ = follower_slot max_edge (list_of c.args.borders.now) l c.args.strip in
+    let slot : ℤ → ℕ = follower_slot max_edge c.args.borders.now.items l c.args.strip in
     sym (take_all (2 * c.loop-k.k) c.loop-k.part (omega (arith, c.requires.long.0))) ∙ c.loop-k.invariant
     ∙ ap (flat_map (λ h. u16_bytes (slot h))) (take_all c.loop-k.k c.args.names.now (omega arith))

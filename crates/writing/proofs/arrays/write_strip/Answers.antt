@@ -2,23 +2,22 @@ use Rattle.std.proofs.Common.{◌≡◌, ◌-◌, ◌≤◌, map, length, take, 
 use Rattle.std.proofs.lemmas.List.{length-take, length-map}
 use Rattle.turning.specs.Limits.{max_edge, line_for}
 use Rattle.chart.specs.Linework.{lines_of}
-use Rattle.strips.specs.Cuts.{list_of}
 use Rattle.writing.specs.Written.{names_in, points_in, start_of}
 use Rattle.writing.proofs.CodeGather.{slots_there, vertices_there, strip_long}
 use Rattle.writing.proofs.arrays.write_strip.Goals as goal
 
 pub slice_bounds-own-end : goal.slice_bounds-own-end
 slice_bounds-own-end g c =
-    slots_there max_edge (list_of c.args.borders.now) (lines_of g.C.Turning.turn g.C.Chart.points c.args.chart.now) c.args.strip c.gather-sizes.result c.gather-sizes.new.names c.gather-sizes.new.firsts c.gather-sizes.ensures
+    slots_there max_edge c.args.borders.now.items (lines_of g.C.Turning.turn g.C.Chart.points c.args.chart.now) c.args.strip c.gather-sizes.result c.gather-sizes.new.names c.gather-sizes.new.firsts c.gather-sizes.ensures
 
 pub slice_bounds-starts-end : goal.slice_bounds-starts-end
 slice_bounds-starts-end g c =
-    vertices_there max_edge (list_of c.args.borders.now) (lines_of g.C.Turning.turn g.C.Chart.points c.args.chart.now) c.args.strip c.gather-sizes.result c.gather-sizes.new.names c.gather-sizes.new.firsts c.gather-sizes.ensures
+    vertices_there max_edge c.args.borders.now.items (lines_of g.C.Turning.turn g.C.Chart.points c.args.chart.now) c.args.strip c.gather-sizes.result c.gather-sizes.new.names c.gather-sizes.new.firsts c.gather-sizes.ensures
 
 pub write_arrays-requires : goal.write_arrays-requires
 write_arrays-requires g c =
     let l = lines_of g.C.Turning.turn g.C.Chart.points c.args.chart.now in
-    let bs = list_of c.args.borders.now in
+    let bs = c.args.borders.now.items in
     let size = c.gather-sizes.result in
     let names = c.gather-sizes.new.names in
     let firsts = c.gather-sizes.new.firsts in

@@ -4,7 +4,6 @@ use Rattle.flat.specs.Orbits.{◌∈◌}
 use Rattle.turning.specs.Limits.{max_edge}
 use Rattle.chart.specs.Linework.{Linework, lines_of}
 use Rattle.search.specs.Marks.{Within, marked, Spreads}
-use Rattle.strips.specs.Cuts.{list_of}
 use Rattle.writing.specs.Written.{names_in, starts_in}
 use Rattle.writing.proofs.CodeNames.{in_strip_held, in_strip_within}
 use Rattle.writing.proofs.CodeSlots.{element_in}
@@ -15,7 +14,7 @@ use Rattle.writing.proofs.gather.collect_firsts.Goals.{then-starts_in+then-not-i
 pub loop-k-init : goal.loop-k-init
 loop-k-init g c =
     let l = lines_of g.C.Turning.turn g.C.Chart.points c.args.chart.now in
-    firsts_none max_edge l (g.C.Turning.lawful c.args.chart.now) c.placed.ensures (list_of c.args.borders.now) c.args.strip c.args.names.now c.args.marks.now c.args.firsts.now c.requires.marks.1
+    firsts_none max_edge l (g.C.Turning.lawful c.args.chart.now) c.placed.ensures c.args.borders.now.items c.args.strip c.args.names.now c.args.marks.now c.args.firsts.now c.requires.marks.1
 
 pub is_marked-requires : goal.is_marked-requires
 is_marked-requires g c =
@@ -23,7 +22,7 @@ is_marked-requires g c =
     let names = c.args.names.now in
     let z = get_or names c.loop-k.k (pos 0) in
     let f : SFits w16 z = search rules in
-    let own : z ∈ names_in max_edge (list_of c.args.borders.now) l c.args.strip = subst (λ zs. z ∈ zs) c.requires.names (element_in names c.loop-k.k c.loop-k-test.true) in
+    let own : z ∈ names_in max_edge c.args.borders.now.items l c.args.strip = subst (λ zs. z ∈ zs) c.requires.names (element_in names c.loop-k.k c.loop-k-test.true) in
     (c.loop-k.auto.marks ∙ c.requires.marks.0, subst (Within max_edge) (sym (to_z-of_z w16 z f)) (in_strip_within max_edge _ l (g.C.Turning.lawful c.args.chart.now) _ z own))
 
 pub mark_round-requires : goal.mark_round-requires
@@ -32,7 +31,7 @@ mark_round-requires g c =
     let names = c.args.names.now in
     let z = get_or names c.loop-k.k (pos 0) in
     let f : SFits w16 z = search rules in
-    let own : z ∈ names_in max_edge (list_of c.args.borders.now) l c.args.strip = subst (λ zs. z ∈ zs) c.requires.names (element_in names c.loop-k.k c.loop-k-test.true) in
+    let own : z ∈ names_in max_edge c.args.borders.now.items l c.args.strip = subst (λ zs. z ∈ zs) c.requires.names (element_in names c.loop-k.k c.loop-k-test.true) in
     (c.loop-k.auto.marks ∙ c.requires.marks.0, ap l.turn.held (to_z-of_z w16 z f) ∙ in_strip_held max_edge _ l (g.C.Turning.lawful c.args.chart.now) _ z own)
 
 -- the lists as they are at the end of a turn
@@ -44,7 +43,7 @@ alike l bs i names k {m = m} {zs = zs} {zs' = zs'} {count' = count'} a b d f =
 pub loop-k-preserved : goal.loop-k-preserved
 loop-k-preserved g c =
     let l = lines_of g.C.Turning.turn g.C.Chart.points c.args.chart.now in
-    let bs = list_of c.args.borders.now in
+    let bs = c.args.borders.now.items in
     let law = g.C.Turning.lawful c.args.chart.now in
     let placed = c.placed.ensures in
     let i = c.args.strip in
@@ -83,6 +82,6 @@ returns g c =
     let last = c.loop-k.auto.k-end in
     let few = c.loop-k.invariant.few in
     record {
-      started = firsts_all max_edge l (g.C.Turning.lawful c.args.chart.now) c.placed.ensures (list_of c.args.borders.now) c.args.strip c.args.names.now c.loop-k.k c.loop-k.marks c.loop-k.firsts c.loop-k.count past c.loop-k.invariant c.requires.names;
+      started = firsts_all max_edge l (g.C.Turning.lawful c.args.chart.now) c.placed.ensures c.args.borders.now.items c.args.strip c.args.names.now c.loop-k.k c.loop-k.marks c.loop-k.firsts c.loop-k.count past c.loop-k.invariant c.requires.names;
       few = omega arith;
     }

@@ -1,9 +1,8 @@
 use Rattle.turning.specs.Limits.{max_edge}
 use Rattle.chart.specs.Linework.{lines_of}
-use Rattle.strips.specs.Cuts.{list_of}
 use Rattle.writing.proofs.CodeFirsts.{Firsts}
 use Rattle.writing.proofs.gather.collect_firsts.Given as goal
 
 -- the vertices of the first k names are collected
 abbrev pub invariant-loop-k : goal.invariant-loop-k
-invariant-loop-k g l = Firsts max_edge (lines_of g.C.Turning.turn g.C.Chart.points l.chart) (list_of l.borders) l.strip l.names l.k l.marks l.firsts l.count
+invariant-loop-k g l = Firsts max_edge (lines_of g.C.Turning.turn g.C.Chart.points l.chart) l.borders.items l.strip l.names l.k l.marks l.firsts l.count

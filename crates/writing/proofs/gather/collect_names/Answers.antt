@@ -2,19 +2,18 @@ use Rattle.std.proofs.Common.{◌≡◌, ◌+◌, ◌-◌, ◌*◌, ◌^◌, ◌
 use Rattle.turning.specs.Limits.{max_edge}
 use Rattle.turning.proofs.Names.{plus_name, minus_name}
 use Rattle.chart.specs.Linework.{lines_of}
-use Rattle.strips.specs.Cuts.{list_of}
 use Rattle.writing.specs.Written.{names_in}
 use Rattle.writing.proofs.CodeNames.{Collected, collected_none, collected_both, collected_past}
 use Rattle.writing.proofs.gather.collect_names.Goals as goal
 use Rattle.writing.proofs.gather.collect_names.Goals.{then-runs_through, else-runs_through}
 
 pub loop-e-init : goal.loop-e-init
-loop-e-init g c = collected_none (list_of c.args.borders.now) (lines_of g.C.Turning.turn g.C.Chart.points c.args.chart.now) c.args.strip c.args.names.now
+loop-e-init g c = collected_none c.args.borders.now.items (lines_of g.C.Turning.turn g.C.Chart.points c.args.chart.now) c.args.strip c.args.names.now
 
 pub loop-e-preserved : goal.loop-e-preserved
 loop-e-preserved g c =
     let l = lines_of g.C.Turning.turn g.C.Chart.points c.args.chart.now in
-    let bs = list_of c.args.borders.now in
+    let bs = c.args.borders.now.items in
     let law = g.C.Turning.lawful c.args.chart.now in
     let e = c.loop-e.e in
     let one = c.loop-e.auto.e in
@@ -36,7 +35,7 @@ loop-e-preserved g c =
 pub returns : goal.returns
 returns g c =
     let l = lines_of g.C.Turning.turn g.C.Chart.points c.args.chart.now in
-    let bs = list_of c.args.borders.now in
+    let bs = c.args.borders.now.items in
     let most = c.loop-e.auto.e-end in
     let end : c.loop-e.e - 1 ≡ max_edge = omega (arith, c.loop-e-test.false) in
     let few = c.loop-e.invariant.few in

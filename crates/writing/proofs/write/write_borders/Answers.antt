@@ -3,14 +3,13 @@ use Rattle.std.specs.List.{flat_map}
 use Rattle.std.proofs.lemmas.List.{take_all}
 use Rattle.std.proofs.lemmas.Option.{slice_get-get_or}
 use Rattle.std.proofs.lemmas.Int.{to_z-of_z}
-use Rattle.strips.specs.Cuts.{list_of}
 use Rattle.writing.specs.Written.{i32_bytes}
 use Rattle.writing.proofs.CodeParts.{element_more}
 use Rattle.writing.proofs.write.write_borders.Goals as goal
 
 pub loop-k-preserved : goal.loop-k-preserved
 loop-k-preserved c =
-    let bs = list_of c.args.borders.now in
+    let bs = c.args.borders.now.items in
     let k = c.loop-k.k in
     let below : k < length bs = omega (arith, c.strip_count-k-end.ensures.count, c.loop-k-test.true) in
     let ys = c.copy_from_slice.new.self in
@@ -22,7 +21,7 @@ loop-k-preserved c =
 
 pub returns : goal.returns
 returns c =
-    let bs = list_of c.args.borders.now in
+    let bs = c.args.borders.now.items in
     let last = c.loop-k.auto.k-end in
     let end : c.loop-k.k ≡ length bs = omega (arith, c.strip_count-k-end.ensures.count, c.loop-k-test.false) in
     sym (take_all (4 * c.loop-k.k) c.loop-k.part (omega arith)) ∙ c.loop-k.invariant ∙ ap (flat_map i32_bytes) (take_all c.loop-k.k bs (omega arith))

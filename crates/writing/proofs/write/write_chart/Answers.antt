@@ -3,7 +3,6 @@ use Rattle.std.proofs.lemmas.Bool.{cond-true, cond-false, le-leb, lt-leb}
 use Rattle.turning.specs.Limits.{max_edge, max_strips}
 use Rattle.chart.specs.Linework.{lines_of}
 use Rattle.strips.specs.Borders.{strip_count}
-use Rattle.strips.specs.Cuts.{list_of}
 use Rattle.writing.specs.Written.{written}
 use Rattle.writing.specs.Lays.{all_sizes, head_bytes, body_bytes}
 use Rattle.writing.proofs.CodeWhole.{sizes_long, head_long, written_parts, written_long, laid, rest_long}
@@ -17,7 +16,7 @@ slice_bounds-own-end g c =
 pub write_strips-requires : goal.write_strips-requires
 write_strips-requires g c =
     let l = lines_of g.C.Turning.turn g.C.Chart.points c.args.chart.now in
-    let bs = list_of c.args.borders.now in
+    let bs = c.args.borders.now.items in
     let count = c.strip_count-count.result in
     let same : count - 0 ≡ strip_count bs = omega (arith, c.strip_count-count.ensures.count) in
     let own : take (count - 0) c.measure_all-body.new.sizes ≡ all_sizes max_edge bs l = ap (λ k. take k c.measure_all-body.new.sizes) same ∙ c.measure_all-body.ensures.sizes in
@@ -34,7 +33,7 @@ write_strips-requires g c =
 pub returns-then-out-end : goal.returns-then-out-end
 returns-then-out-end g c =
     let l = lines_of g.C.Turning.turn g.C.Chart.points c.args.chart.now in
-    let bs = list_of c.args.borders.now in
+    let bs = c.args.borders.now.items in
     let whole = written_long max_edge bs l c.strip_count-count.result c.measure_all-body.result c.strip_count-count.ensures.count c.measure_all-body.ensures.long in
     let short : length c.args.out.now < length (written max_edge bs l) = omega (arith, c.if-out-end.true) in
     let no = lt-leb (length (written max_edge bs l)) (length c.args.out.now) short in
@@ -43,7 +42,7 @@ returns-then-out-end g c =
 pub returns : goal.returns
 returns g c =
     let l = lines_of g.C.Turning.turn g.C.Chart.points c.args.chart.now in
-    let bs = list_of c.args.borders.now in
+    let bs = c.args.borders.now.items in
     let count = c.strip_count-count.result in
     let out = c.args.out.now in
     let end = 2 + 4 * count + 4 * (count - 1) + c.measure_all-body.result in

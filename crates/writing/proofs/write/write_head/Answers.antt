@@ -1,7 +1,6 @@
 use Rattle.std.proofs.Common.{◌≡◌, ◌++◌, length, refl, ap, ◌∙◌, ap₂}
 use Rattle.std.specs.List.{flat_map}
 use Rattle.strips.specs.Borders.{strip_count}
-use Rattle.strips.specs.Cuts.{list_of}
 use Rattle.writing.specs.Written.{u16_bytes, i32_bytes}
 use Rattle.writing.specs.Lays.{sizes_bytes}
 use Rattle.writing.proofs.CodeGather.{length_joined}
@@ -10,7 +9,7 @@ use Rattle.writing.proofs.write.write_head.Goals as goal
 
 pub returns : goal.returns
 returns c =
-    let bs = list_of c.args.borders.now in
+    let bs = c.args.borders.now.items in
     let own = c.args.sizes.now in
     let n = c.copy_from_slice.new.self in
     let s = c.write_sizes.new.part in

@@ -3,7 +3,6 @@ use Rattle.std.proofs.lemmas.List.{take_all, length-take-le, length-drop}
 use Rattle.turning.specs.Limits.{max_edge}
 use Rattle.chart.specs.Linework.{Linework, lines_of}
 use Rattle.strips.specs.Borders.{strip_count}
-use Rattle.strips.specs.Cuts.{list_of}
 use Rattle.file.specs.declared.view.Sizes.{Sizes}
 use Rattle.writing.specs.Written.{strip_bytes}
 use Rattle.writing.specs.Lays.{all_sizes, body_bytes}
@@ -27,25 +26,25 @@ part_of bs l sizes part j at bytes d is long below here are =
     record { to = to; within = within; long = length-take-le (at + bytes - at) (drop at part) fits ∙ omega (arith, strip_bytes_long max_edge bs l j) }
 
 pub loop-j-init : goal.loop-j-init
-loop-j-init g c = stripwise_none max_edge (list_of c.args.borders.now) (lines_of g.C.Turning.turn g.C.Chart.points c.args.chart.now) c.args.part.now
+loop-j-init g c = stripwise_none max_edge c.args.borders.now.items (lines_of g.C.Turning.turn g.C.Chart.points c.args.chart.now) c.args.part.now
 
 pub overflow_add-end : goal.overflow_add-end
 overflow_add-end g c =
-    let inside = (part_of (list_of c.args.borders.now) (lines_of g.C.Turning.turn g.C.Chart.points c.args.chart.now) c.args.sizes.now c.loop-j.part c.loop-j.j c.loop-j.at c.bytes.result _ c.requires.sizes (c.loop-j.auto.part ∙ c.requires.long) c.loop-j-test.true c.loop-j.invariant.here c.bytes.ensures).within in
+    let inside = (part_of c.args.borders.now.items (lines_of g.C.Turning.turn g.C.Chart.points c.args.chart.now) c.args.sizes.now c.loop-j.part c.loop-j.j c.loop-j.at c.bytes.result _ c.requires.sizes (c.loop-j.auto.part ∙ c.requires.long) c.loop-j-test.true c.loop-j.invariant.here c.bytes.ensures).within in
     search rules
 
 pub slice_bounds-write_strip-end : goal.slice_bounds-write_strip-end
 slice_bounds-write_strip-end g c =
-    (part_of (list_of c.args.borders.now) (lines_of g.C.Turning.turn g.C.Chart.points c.args.chart.now) c.args.sizes.now c.loop-j.part c.loop-j.j c.loop-j.at c.bytes.result _ c.requires.sizes (c.loop-j.auto.part ∙ c.requires.long) c.loop-j-test.true c.loop-j.invariant.here c.bytes.ensures).within
+    (part_of c.args.borders.now.items (lines_of g.C.Turning.turn g.C.Chart.points c.args.chart.now) c.args.sizes.now c.loop-j.part c.loop-j.j c.loop-j.at c.bytes.result _ c.requires.sizes (c.loop-j.auto.part ∙ c.requires.long) c.loop-j-test.true c.loop-j.invariant.here c.bytes.ensures).within
 
 pub write_strip-requires : goal.write_strip-requires
 write_strip-requires g c =
-    (part_of (list_of c.args.borders.now) (lines_of g.C.Turning.turn g.C.Chart.points c.args.chart.now) c.args.sizes.now c.loop-j.part c.loop-j.j c.loop-j.at c.bytes.result _ c.requires.sizes (c.loop-j.auto.part ∙ c.requires.long) c.loop-j-test.true c.loop-j.invariant.here c.bytes.ensures).long
+    (part_of c.args.borders.now.items (lines_of g.C.Turning.turn g.C.Chart.points c.args.chart.now) c.args.sizes.now c.loop-j.part c.loop-j.j c.loop-j.at c.bytes.result _ c.requires.sizes (c.loop-j.auto.part ∙ c.requires.long) c.loop-j-test.true c.loop-j.invariant.here c.bytes.ensures).long
 
 pub loop-j-preserved : goal.loop-j-preserved
 loop-j-preserved g c =
     let l = lines_of g.C.Turning.turn g.C.Chart.points c.args.chart.now in
-    let bs = list_of c.args.borders.now in
+    let bs = c.args.borders.now.items in
     let p = part_of bs l c.args.sizes.now c.loop-j.part c.loop-j.j c.loop-j.at c.bytes.result _ c.requires.sizes (c.loop-j.auto.part ∙ c.requires.long) c.loop-j-test.true c.loop-j.invariant.here c.bytes.ensures in
     let room : c.loop-j.at ≤ length c.loop-j.part = omega (arith, p.within) in
     stripwise_more max_edge bs l c.loop-j.j c.loop-j.part c.write_strip.new.part c.loop-j.at (c.loop-j.at + c.bytes.result) _ c.loop-j.invariant c.write_strip.ensures p.to room
@@ -53,7 +52,7 @@ loop-j-preserved g c =
 pub returns : goal.returns
 returns g c =
     let l = lines_of g.C.Turning.turn g.C.Chart.points c.args.chart.now in
-    let bs = list_of c.args.borders.now in
+    let bs = c.args.borders.now.items in
     let many : length c.args.sizes.now ≡ strip_count bs = ap length c.requires.sizes ∙ sizes_long max_edge bs l in
     let last = c.loop-j.auto.j-end in
     let end : c.loop-j.j ≡ strip_count bs = omega (arith, c.loop-j-test.false) in

@@ -20,21 +20,19 @@ const BORDERS: [i32; 31] = [
 // Draws the edges 1 to `edges` one after another from west to east; answers how many were hung.
 fn draw_chain<S: Store>(store: &mut S, edges: u16) -> u16 {
     let mut drawn: u16 = 0;
-    for e in 1..=MAX_EDGE {
-        if e <= edges {
-            let x = e as i32;
-            let corner = if e == 1 { None } else { Some(1 - e as i16) };
-            let start = End {
-                point: Point { x: x - 1, y: 0 },
-                corner,
-            };
-            let end = End {
-                point: Point { x, y: 0 },
-                corner: None,
-            };
-            if store.hang(e, start, end) {
-                drawn = drawn.saturating_add(1);
-            }
+    for e in 1..=edges.min(MAX_EDGE) {
+        let x = e as i32;
+        let corner = if e == 1 { None } else { Some(1 - e as i16) };
+        let start = End {
+            point: Point { x: x - 1, y: 0 },
+            corner,
+        };
+        let end = End {
+            point: Point { x, y: 0 },
+            corner: None,
+        };
+        if store.hang(e, start, end) {
+            drawn = drawn.saturating_add(1);
         }
     }
     drawn

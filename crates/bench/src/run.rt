@@ -21,53 +21,79 @@ const ANSWER: usize = 10;
 
 // A call as it comes over the boundary.
 #[derive(Clone, Copy)]
-struct Asked {
-    kind: u16,
-    edge: u16,
-    east: u16,
-    c: i16,
-    d: i16,
-    p: Point,
-    q: Point,
+enum Asked {
+    Start { edge: u16, p: Point, q: Point },
+    Sprout { edge: u16, c: i16, p: Point },
+    Join { edge: u16, c: i16, d: i16 },
+    Split { edge: u16, east: u16, p: Point },
+    Remove { edge: u16 },
+    Cut(i32),
+    Knit(i32),
+    Count,
+    // A kind that is none of these.
+    Other,
 }
 
-// Takes a call apart. What `c` is to a sprout or a join, `east` is to a split.
-fn call_at(bytes: &[u8]) -> Asked
-    requires { 24 ≤ length bytes.now }
+fn point_at(bytes: &[u8], at: usize) -> Point
+    requires { at + 8 ≤ length bytes.now }
 {
-    Asked {
-        kind: read_u16(bytes, 0),
-        edge: read_u16(bytes, 2),
-        east: read_u16(bytes, 4),
-        c: read_i16(bytes, 4),
-        d: read_i16(bytes, 6),
-        p: Point {
-            x: read_i32(bytes, 8),
-            y: read_i32(bytes, 12),
-        },
-        q: Point {
-            x: read_i32(bytes, 16),
-            y: read_i32(bytes, 20),
-        },
+    Point {
+        x: read_i32(bytes, at),
+        y: read_i32(bytes, at + 4),
     }
 }
 
-// Carries out a call; one of another kind does nothing.
+// Takes a call apart: its kind comes first.
+fn call_at(bytes: &[u8]) -> Asked
+    requires { 24 ≤ length bytes.now }
+{
+    let edge = read_u16(bytes, 2);
+    let p = point_at(bytes, 8);
+    match read_u16(bytes, 0) {
+        0 => Asked::Start {
+            edge,
+            p,
+            q: point_at(bytes, 16),
+        },
+        1 => Asked::Sprout {
+            edge,
+            c: read_i16(bytes, 4),
+            p,
+        },
+        2 => Asked::Join {
+            edge,
+            c: read_i16(bytes, 4),
+            d: read_i16(bytes, 6),
+        },
+        3 => Asked::Split {
+            edge,
+            east: read_u16(bytes, 4),
+            p,
+        },
+        4 => Asked::Remove { edge },
+        5 => Asked::Cut(p.x),
+        6 => Asked::Knit(p.x),
+        7 => Asked::Count,
+        _ => Asked::Other,
+    }
+}
+
+// Carries out a call; a count and one of another kind change nothing.
 fn carry(
     sheet: &mut Sheet,
     call: Asked,
     marks: &mut [u8],
     line: &mut [i16],
 ) -> Result<(), Refusal> {
-    match call.kind {
-        0 => start(sheet, call.edge, call.p, call.q),
-        1 => sprout(sheet, call.edge, call.c, call.p),
-        2 => join(sheet, call.edge, call.c, call.d, marks, line),
-        3 => split(sheet, call.edge, call.east, call.p),
-        4 => remove(sheet, call.edge),
-        5 => sheet.cut(call.p.x),
-        6 => sheet.knit(call.p.x),
-        _ => Ok(()),
+    match call {
+        Asked::Start { edge, p, q } => start(sheet, edge, p, q),
+        Asked::Sprout { edge, c, p } => sprout(sheet, edge, c, p),
+        Asked::Join { edge, c, d } => join(sheet, edge, c, d, marks, line),
+        Asked::Split { edge, east, p } => split(sheet, edge, east, p),
+        Asked::Remove { edge } => remove(sheet, edge),
+        Asked::Cut(x) => sheet.cut(x),
+        Asked::Knit(x) => sheet.knit(x),
+        Asked::Count | Asked::Other => Ok(()),
     }
 }
 
@@ -76,9 +102,7 @@ fn put(out: &mut [u8], at: usize, number: u16)
     requires { at + 2 ≤ length out.old }
     ensures { length out.new ≡ length out.old }
 {
-    let [low, high] = number.to_le_bytes();
-    out[at] = low;
-    out[at + 1] = high;
+    out[at..at + 2].copy_from_slice(&number.to_le_bytes());
 }
 
 // Writes an answer, with its counts where they were asked for.
@@ -116,20 +140,20 @@ fn put_fault(out: &mut [u8], fault: Fault)
 }
 
 // The counts where they are asked for; else none.
-fn counted(sheet: &Sheet, kind: u16, marks: &mut [u8], line: &mut [i16]) -> Counts {
+fn counted(sheet: &Sheet, call: Asked, marks: &mut [u8], line: &mut [i16]) -> Counts {
     let none = Counts {
         vertices: 0,
         edges: 0,
         loops: 0,
         pieces: 0,
     };
-    if kind != 7 {
-        return none;
+    match call {
+        Asked::Count => counts(sheet, marks, line).unwrap_or(none),
+        _ => none,
     }
-    counts(sheet, marks, line).unwrap_or(none)
 }
 
-// Carries out the calls, as many as there are places for answers.
+// Carries out the calls; the first of them, as many as there are places, leave their answers.
 fn carry_all(
     sheet: &mut Sheet,
     calls: &[u8],
@@ -137,12 +161,13 @@ fn carry_all(
     marks: &mut [u8],
     line: &mut [i16],
 ) {
-    for k in 0..calls.len() / CALL {
-        let call = call_at(&calls[CALL * k..CALL * k + CALL]);
+    let mut places = answers.chunks_exact_mut(ANSWER);
+    for bytes in calls.chunks_exact(CALL) {
+        let call = call_at(bytes);
         let answer = carry(sheet, call, marks, line);
-        let c = counted(sheet, call.kind, marks, line);
-        if ANSWER * k + ANSWER <= answers.len() {
-            put_answer(&mut answers[ANSWER * k..ANSWER * k + ANSWER], answer, c);
+        let c = counted(sheet, call, marks, line);
+        if let Some(place) = places.next() {
+            put_answer(place, answer, c);
         }
     }
 }

@@ -7,6 +7,7 @@ use edits::{join, remove, split};
 use halfedges::halfedge::FREE;
 use questions::counting::counts;
 use questions::loops::loop_length;
+use std::fmt;
 use strips::sheet::Sheet;
 use table::Table;
 use turning::limits::{LINE_NAMES, MARK_BYTES, MAX_NAME, SLOTS};
@@ -19,6 +20,16 @@ const B: Point = Point { x: 4, y: 0 };
 
 const C: Point = Point { x: 2, y: 3 };
 
+// A point as the tour prints it.
+#[derive(Clone, Copy)]
+struct Place(Point);
+
+impl fmt::Display for Place {
+    fn fmt<W: fmt::Write>(&self, f: &mut fmt::Formatter<W>) -> fmt::Result {
+        write!(f, "({}, {})", self.0.x, self.0.y)
+    }
+}
+
 fn yes_or_no(answer: bool) -> &'static str {
     if answer { "yes" } else { "no" }
 }
@@ -26,8 +37,8 @@ fn yes_or_no(answer: bool) -> &'static str {
 // Hangs an edge between two ends, and prints what was asked and answered.
 fn hang<S: Store>(rt: &impl Print, store: &mut S, edge: u16, a: End, b: End) -> anyhow::Result<()> {
     let answer = yes_or_no(store.hang(edge, a, b));
-    let (ax, ay, bx, by) = (a.point.x, a.point.y, b.point.x, b.point.y);
-    println!(rt; "hang {edge} between ({ax}, {ay}) and ({bx}, {by}): {answer}")?;
+    let (from, to) = (Place(a.point), Place(b.point));
+    println!(rt; "hang {edge} between {from} and {to}: {answer}")?;
     Ok(())
 }
 
@@ -61,8 +72,8 @@ fn print_loop<T: Chart>(rt: &impl Print, t: &T, h: i16) -> anyhow::Result<()> {
     let mut x = h;
     for _ in 0..length {
         if let Some(p) = t.point(x) {
-            let (px, py) = (p.x, p.y);
-            print!(rt; " {x:+} from ({px}, {py})")?;
+            let from = Place(p);
+            print!(rt; " {x:+} from {from}")?;
         }
         x = side.follower(x);
     }
@@ -117,13 +128,9 @@ fn print_slots(rt: &impl Print, sheet: &Sheet) -> anyhow::Result<()> {
 
 // Do the two charts hold the same names with equal followers and points?
 fn equal<S: Chart, T: Chart>(s: &S, t: &T) -> bool {
-    let mut equal = true;
-    for h in -MAX_NAME..=MAX_NAME {
-        equal = equal && s.holds(h) == t.holds(h);
-        equal = equal && s.follower(h) == t.follower(h);
-        equal = equal && s.point(h) == t.point(h);
-    }
-    equal
+    (-MAX_NAME..=MAX_NAME).all(|h| {
+        s.holds(h) == t.holds(h) && s.follower(h) == t.follower(h) && s.point(h) == t.point(h)
+    })
 }
 
 // Lays the table's chart out in two strips, and merges it into another table.

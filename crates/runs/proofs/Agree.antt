@@ -13,9 +13,10 @@ use Rattle.runs.specs.declared.sheets.SheetCall.{SheetCall}
 use Rattle.runs.specs.declared.sheets.SheetCall.TheVariants.{Edit as AnEdit, Cut, Knit}
 use Rattle.runs.specs.Chains.{Chain, over, then}
 use Rattle.runs.specs.Runs.{edit_of, Answer, Carried, Step}
-use Rattle.runs.specs.Sheets.{SheetCarried, SheetStep}
+use Rattle.runs.specs.Sheets.{SheetChanged, SheetStep}
+use Rattle.runs.specs.Flatness.{recut_lines}
 use Rattle.runs.specs.Agreed.{bare, edits_more, edits_of, answers_more, answers_of, edits_in, answers_in, Unhindered, Alike, RunsAgree}
-use Rattle.runs.proofs.Carrying.{zero_one, recut_lines}
+use Rattle.runs.proofs.Carrying.{zero_one}
 
 -- a store of that line work where everything fits
 abbrev roomy : Linework → Meaning
@@ -104,7 +105,7 @@ agree_once n m m' k k' p q p' q' a b h i e l s r u v = (
 )
 
 -- one call of the sheet, with what is known of the calls after it
-more : (m m₁ m₂ k k₂ : Meaning) (a : Answer) (r : Outcome) → a ≡ Some r → (xs ys : List (Item SheetCall)) (us vs : List (Item Call)) (t u : SheetCall) → SheetCarried m t r u m₁ → Chain Step k us vs k₂
+more : (m m₁ m₂ k k₂ : Meaning) (a : Answer) (r : Outcome) → a ≡ Some r → (xs ys : List (Item SheetCall)) (us vs : List (Item Call)) (t u : SheetCall) → SheetChanged m t r u m₁ → Chain Step k us vs k₂
     → ((i j : Meaning) (us vs : List (Item Call)) → Chain Step i us vs j → Alike xs us m₁.lines i.lines ys vs m₂.lines j.lines)
     → edits_more t (edits_of xs) ≡ edits_in us → m.lines ≡ k.lines → Unhindered (answers_more u a (answers_of ys)) → Unhindered (answers_in vs)
     → (answers_more u a (answers_of ys) ≡ answers_in vs) × (m₂.lines ≡ k₂.lines)
@@ -128,7 +129,7 @@ agree : {m m' k k' : Meaning} {xs ys : List (Item SheetCall)} {us vs : List (Ite
 agree over over = λ e l f g. (refl, l)
 agree over (then t j) = λ e l f g. let z : ◌≡◌ {A = ℕ} 0 1 = cc in absurd (zero_one z)
 agree {k = k} {k' = k'} {us = us} {vs = vs} (then {m = m} {m₁ = m₁} {m₂ = m₂} {x = x} {y = y} {xs = xs} {ys = ys} s h) i =
-    more m m₁ m₂ k k' y.answer s.0.0 s.0.1.0 xs ys us vs x.call y.call s.0.1.1 i (λ p q us vs j. agree h j)
+    more m m₁ m₂ k k' y.answer s.0 s.1.0 xs ys us vs x.call y.call s.1.1.0 i (λ p q us vs j. agree h j)
 
 pub runs_agree : RunsAgree
 runs_agree m m' k k' xs ys us vs h i = agree h i

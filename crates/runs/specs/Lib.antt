@@ -1,4 +1,5 @@
 pub mod Chains
 pub mod Runs
 pub mod Sheets
+pub mod Flatness
 pub mod Agreed

@@ -43,14 +43,26 @@ pub record Carried (n : ℕ) (m : Meaning) (q : Edit) (r : Outcome) (q' : Edit) 
   pub judged : Judged n m q (r ≡ Err LoopsOfOnePiece)
   pub flat : KeepsFlat n m m'
 
--- one call of a run
+-- the same of a call
+abbrev pub CallCarried : Meaning → Call → Outcome → Call → Meaning → Type 0
+CallCarried m c r c' m' = Carried max_edge m (edit_of c) r (edit_of c') m'
+
+-- one call of a run is carried out, and has its answer
+abbrev pub StepBy : {C : Type 0} → (Meaning → C → Outcome → C → Meaning → Type 0) → Meaning → Item C → Item C → Meaning → Type 0
+StepBy By m x y m' = Answered y.answer (λ r. By m x.call r y.call m')
+
+-- one call of a list of edits
 abbrev pub Step : Meaning → Item Call → Item Call → Meaning → Type 0
-Step m x y m' = Answered y.answer (λ r. Carried max_edge m (edit_of x.call) r (edit_of y.call) m')
+Step = StepBy CallCarried
 
 -- vertices and loops are together the edges and twice the pieces
 abbrev pub FlatAt : Meaning → Type 0
 FlatAt m = Flat max_edge m.lines.turn
 
 -- one call of a run, and the line work is flat after it
+abbrev pub FlatStepBy : {C : Type 0} → (Meaning → C → Outcome → C → Meaning → Type 0) → Meaning → Item C → Item C → Meaning → Type 0
+FlatStepBy By m x y m' = StepBy By m x y m' × FlatAt m'
+
+-- one call of a list of edits, and the line work is flat after it
 abbrev pub FlatStep : Meaning → Item Call → Item Call → Meaning → Type 0
-FlatStep m x y m' = Step m x y m' × FlatAt m'
+FlatStep = FlatStepBy CallCarried

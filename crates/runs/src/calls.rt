@@ -1,9 +1,9 @@
 // Lists of edits over any store.
 ghost use Rattle.std.specs.Prelude.{◌≡◌};
-ghost use Rattle.turning.specs.Limits.{max_edge};
-ghost use Rattle.chart.specs.Stores.{meant};
+ghost use Rattle.turning.specs.Refusals.{Outcome};
+ghost use Rattle.chart.specs.Stores.{Meaning, meant};
 ghost use Rattle.runs.specs.Chains.{Chain};
-ghost use Rattle.runs.specs.Runs.{edit_of, Carried, Step, FlatStep, FlatAt};
+ghost use Rattle.runs.specs.Runs.{CallCarried, StepBy, FlatStepBy, FlatAt};
 
 use chart::Store;
 use chart::point::Point;
@@ -56,37 +56,56 @@ pub struct Item<C> {
     pub answer: Answer,
 }
 
-// Carries out one call.
-pub fn carry<S: Store>(store: &mut S, call: &mut Call) -> Result<(), Refusal>
-    ensures { Carried max_edge (meant S.Turning.turn S.Chart.points S.Store.frame S.Store.fits store.old) (edit_of call.old) result (edit_of call.new) (meant S.Turning.turn S.Chart.points S.Store.frame S.Store.fits store.new) }
-{
-    match *call {
-        Call::Start { edge, p, q } => edits::start(store, edge, p, q),
-        Call::Sprout { edge, corner, p } => edits::sprout(store, edge, corner, p),
-        Call::Join {
-            edge,
-            at,
-            ref mut marks,
-            ref mut line,
-        } => edits::join(
-            store,
-            edge,
-            at.c,
-            at.d,
-            marks.as_mut_slice(),
-            line.as_mut_slice(),
-        ),
-        Call::Split { edge, east, p } => edits::split(store, edge, east, p),
-        Call::Remove { edge } => edits::remove(store, edge),
+// A call that a store of some kind carries out; each keeps flat line work flat.
+pub trait Carry<S> {
+    // What the store means.
+    ghost means: { S → Meaning };
+
+    // The call, from one meaning to another: its outcome, and the call as it stands after.
+    ghost carried: { Meaning → Self → Outcome → Self → Meaning → Type 0 };
+
+    fn carry(&mut self, store: &mut S) -> Result<(), Refusal>
+        ensures { carried (means store.old) self.old result self.new (means store.new) };
+
+    ghost keeps_flat: { (m : Meaning) (x : Self) (r : Outcome) (y : Self) (m' : Meaning) → carried m x r y m' → FlatAt m → FlatAt m' };
+}
+
+impl<S: Store> Carry<S> for Call {
+    ghost means = { λ s. meant S.Turning.turn S.Chart.points S.Store.frame S.Store.fits s };
+
+    ghost carried = { CallCarried };
+
+    ghost keeps_flat = { λ m x r y m' c. c.flat };
+
+    fn carry(&mut self, store: &mut S) -> Result<(), Refusal> {
+        match *self {
+            Call::Start { edge, p, q } => edits::start(store, edge, p, q),
+            Call::Sprout { edge, corner, p } => edits::sprout(store, edge, corner, p),
+            Call::Join {
+                edge,
+                at,
+                ref mut marks,
+                ref mut line,
+            } => edits::join(
+                store,
+                edge,
+                at.c,
+                at.d,
+                marks.as_mut_slice(),
+                line.as_mut_slice(),
+            ),
+            Call::Split { edge, east, p } => edits::split(store, edge, east, p),
+            Call::Remove { edge } => edits::remove(store, edge),
+        }
     }
 }
 
 // Every call is carried out as defined; and from a flat start the line work is flat after every call.
-pub fn run<S: Store>(store: &mut S, items: &mut [Item<Call>])
-    ensures run { Chain Step (meant S.Turning.turn S.Chart.points S.Store.frame S.Store.fits store.old) items.old items.new (meant S.Turning.turn S.Chart.points S.Store.frame S.Store.fits store.new) }
-    ensures flat { FlatAt (meant S.Turning.turn S.Chart.points S.Store.frame S.Store.fits store.old) → Chain FlatStep (meant S.Turning.turn S.Chart.points S.Store.frame S.Store.fits store.old) items.old items.new (meant S.Turning.turn S.Chart.points S.Store.frame S.Store.fits store.new) }
+pub fn run<S, C: Carry<S>>(store: &mut S, items: &mut [Item<C>])
+    ensures run { Chain (StepBy C.carried) (C.means store.old) items.old items.new (C.means store.new) }
+    ensures flat { FlatAt (C.means store.old) → Chain (FlatStepBy C.carried) (C.means store.old) items.old items.new (C.means store.new) }
 {
     for item in items.iter_mut() {
-        item.answer = Some(carry(store, &mut item.call));
+        item.answer = Some(item.call.carry(store));
     }
 }

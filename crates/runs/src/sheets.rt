@@ -7,10 +7,11 @@ ghost use Rattle.halfedges.specs.Rows.{lines_in};
 ghost use Rattle.strips.specs.Sheets.{sheet_of};
 ghost use Rattle.runs.specs.Chains.{Chain};
 ghost use Rattle.runs.specs.Runs.{Step, FlatStep, FlatAt};
-ghost use Rattle.runs.specs.Sheets.{SheetCarried, RoomTold, SheetStep, FlatSheetStep};
+ghost use Rattle.runs.specs.Sheets.{SheetCarried, SheetStep, FlatSheetStep};
+ghost use Rattle.runs.specs.Flatness.{sheet_flat};
 ghost use Rattle.runs.specs.Agreed.{Alike};
 
-use crate::calls::{Call, Item, carry, run};
+use crate::calls::{Call, Carry, Item, run};
 use chart::Store;
 use strips::sheet::Sheet;
 use turning::refusal::Refusal;
@@ -23,25 +24,19 @@ pub enum SheetCall {
     Knit(i32),
 }
 
-// Carries out one call.
-pub fn carry_on_sheet(sheet: &mut Sheet, call: &mut SheetCall) -> Result<(), Refusal>
-    ensures carried { SheetCarried (sheet_of sheet.old.borders.items sheet.old.rows.at.now) call.old result call.new (sheet_of sheet.new.borders.items sheet.new.rows.at.now) }
-    ensures room { RoomTold (sheet_of sheet.new.borders.items sheet.new.rows.at.now) }
-{
-    match call {
-        SheetCall::Edit(edit) => carry(sheet, edit),
-        SheetCall::Cut(x) => sheet.cut(*x),
-        SheetCall::Knit(x) => sheet.knit(*x),
-    }
-}
+impl<'a> Carry<Sheet<'a>> for SheetCall {
+    ghost means = { λ s. sheet_of s.borders.items s.rows.at.now };
 
-// Every call is carried out as defined; and from a flat start the line work is flat after every call.
-pub fn run_sheet(sheet: &mut Sheet, items: &mut [Item<SheetCall>])
-    ensures run { Chain SheetStep (sheet_of sheet.old.borders.items sheet.old.rows.at.now) items.old items.new (sheet_of sheet.new.borders.items sheet.new.rows.at.now) }
-    ensures flat { FlatAt (sheet_of sheet.old.borders.items sheet.old.rows.at.now) → Chain FlatSheetStep (sheet_of sheet.old.borders.items sheet.old.rows.at.now) items.old items.new (sheet_of sheet.new.borders.items sheet.new.rows.at.now) }
-{
-    for item in items.iter_mut() {
-        item.answer = Some(carry_on_sheet(sheet, &mut item.call));
+    ghost carried = { SheetCarried };
+
+    ghost keeps_flat = { sheet_flat };
+
+    fn carry(&mut self, sheet: &mut Sheet<'a>) -> Result<(), Refusal> {
+        match self {
+            SheetCall::Edit(edit) => edit.carry(sheet),
+            SheetCall::Cut(x) => sheet.cut(*x),
+            SheetCall::Knit(x) => sheet.knit(*x),
+        }
     }
 }
 
@@ -57,6 +52,6 @@ pub fn run_both<S: Store>(
     ensures flat { FlatAt (sheet_of sheet.old.borders.items sheet.old.rows.at.now) → Chain FlatSheetStep (sheet_of sheet.old.borders.items sheet.old.rows.at.now) calls.old calls.new (sheet_of sheet.new.borders.items sheet.new.rows.at.now) }
     ensures alike { Alike calls.old items.old (lines_in (seen sheet.old.rows.at.now)) (lines_of S.Turning.turn S.Chart.points other.old) calls.new items.new (lines_in (seen sheet.new.rows.at.now)) (lines_of S.Turning.turn S.Chart.points other.new) }
 {
-    run_sheet(sheet, calls);
+    run(sheet, calls);
     run(other, items);
 }

@@ -3,6 +3,6 @@ use Rattle.runs.proofs.sheets.run_both.Goals as goal
 
 pub returns : goal.returns
 returns g c =
-    let h = c.run_sheet.ensures.run in
-    let k = c.run.ensures.run in
-    record { sheet = h; other = k; flat = c.run_sheet.ensures.flat; alike = runs_agree _ _ _ _ _ _ _ _ h k }
+    let h = c.run.ensures.run in
+    let k = c.run-2.ensures.run in
+    record { sheet = h; other = k; flat = c.run.ensures.flat; alike = runs_agree _ _ _ _ _ _ _ _ h k }

@@ -7,7 +7,7 @@ use Rattle.search.specs.Buffers.{enough, given_back}
 use Rattle.chart.specs.Stores.{meant}
 use Rattle.edits.specs.Edits.{starts, sprouts, joins, splits, removes, Done, Judged}
 use Rattle.runs.proofs.Carrying.{carried, same_join}
-use Rattle.runs.proofs.calls.carry.Goals as goal
+use Rattle.runs.proofs.calls.CallCarry.carry.Goals as goal
 
 pub returns-in-Start : goal.returns-in-Start
 returns-in-Start g c =

@@ -20,7 +20,7 @@ pub fn none() -> Borders
     Borders::new()
 }
 
-// The same borders once more.
+// The same borders once more. An ArrayVec is not Copy, and its clone may fail.
 pub(crate) fn copied(borders: &Borders) -> Borders
     ensures { result ≡ borders.now }
 {
@@ -44,7 +44,7 @@ pub fn border(borders: &Borders, k: u16) -> Option<i32>
     borders.get(k as usize).copied()
 }
 
-// The strip where an x lies, counted from 1.
+// The strip where an x lies, counted from 1. Any borders may be asked, also such as do not rise: so they are passed one by one.
 pub fn strip_of(borders: &Borders, x: i32) -> u16
     ensures { result ≡ strip_of borders.now.items x }
 {

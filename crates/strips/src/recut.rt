@@ -15,7 +15,7 @@ use halfedges::copy::copy_chart;
 use halfedges::external::plant_edge_past;
 use halfedges::halfedge::{Halfedge, Rows};
 use halfedges::slots::slot;
-use halfedges::strips::{drop_external, set_strip};
+use halfedges::strips::drop_external;
 use turning::limits::{MAX_EDGE, SLOTS};
 
 // Moves every home row to the strip of its x. There are no other rows yet, so a row with a name is home.
@@ -27,10 +27,9 @@ fn renumber(rows: &mut [Halfedge], borders: &Borders)
     ensures alone { HomesAlone slots (seen rows.new) }
     ensures homes { InStrips borders.now.items (seen rows.new) }
 {
-    for i in 0..SLOTS {
-        if rows[i].name != 0 {
-            let strip = strip_of(borders, rows[i].x);
-            set_strip(rows, i + 1, strip);
+    for row in rows[..SLOTS].iter_mut() {
+        if row.name != 0 {
+            row.strip = strip_of(borders, row.x);
         }
     }
 }

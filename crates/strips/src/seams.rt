@@ -26,7 +26,7 @@ fn has_border(borders: &Borders, x: i32) -> bool
 
 // The borders with x put in.
 fn put_in(borders: &Borders, x: i32) -> Borders
-    requires { length borders.now.items < 31 }
+    requires { length borders.now.items < MAX_BORDERS }
     ensures { result.items ≡ with_border x borders.now.items }
 {
     let mut more = copied(borders);

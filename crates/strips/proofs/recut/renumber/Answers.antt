@@ -1,4 +1,6 @@
-use Rattle.std.proofs.Common.{◌≡◌, ℕ, suc, ◌+◌, ◌-◌, ◌<◌, true, List, get_or, ℤ, pos, sym, ap, ◌∙◌, subst, add-one, arith, w16, w32, SFits, of_z, rules, below_more}
+use Rattle.std.proofs.Common.{◌≡◌, ℕ, suc, ◌+◌, ◌-◌, ◌<◌, ◌≤◌, true, List, get_or, drop, ◌++◌, length, set, ℤ, pos, sym, refl, ap, ◌∙◌, subst, ap₂, add-one, arith, w16, w32, SFits, of_z, rules, below_more}
+use Rattle.std.proofs.lemmas.List.{take-append-drop, length-take, length-append, set-append_left, set-get_or}
+use Rattle.std.proofs.Math.ListN.{get_or-append}
 use Rattle.std.proofs.lemmas.Int.{to_z-of_z}
 use Rattle.std.proofs.lemmas.Bool.{leb-true}
 use Rattle.turning.specs.Limits.{max_edge, slots}
@@ -11,10 +13,10 @@ use Rattle.halfedges.specs.Homes.{HomesAlone, with_strip}
 use Rattle.halfedges.proofs.Alone.{held_home, named_home, moved_lines, moved_indexed, moved_alone, moved_here, moved_there}
 use Rattle.halfedges.proofs.Beside.{core_same}
 use Rattle.halfedges.proofs.Meaning.{held_slot}
-use Rattle.halfedges.proofs.Views.{row_is}
+use Rattle.halfedges.proofs.Views.{row_is, write_view, write_roomy}
 use Rattle.strips.specs.Borders.{strip_of}
 use Rattle.strips.proofs.recut.renumber.Goals as goal
-use Rattle.strips.proofs.recut.renumber.Goals.{then-rows-i-ne0, else-rows-i-ne0}
+use Rattle.strips.proofs.recut.renumber.Goals.{then-row-ne0, else-row-ne0}
 
 -- a home row is in the strip of its x
 abbrev Rightly : List ℤ → Halfedge → Type 0
@@ -42,35 +44,78 @@ moved bs rs₀ i rs rs' strip l past here is view roomy =
 left : (bs : List ℤ) (rs₀ : List Halfedge) (i : ℕ) (rs : List Halfedge) → Renumbered bs rs₀ i rs → ((seen rs).row (suc i)).name ≡ pos 0 → Renumbered bs rs₀ (i + 1) rs
 left bs rs₀ i rs past free = (past.0, past.1, past.2, below_more _ _ past.3 (λ here. absurd (grind (arith, tell ((seen rs).row (suc i)).name (pos 0), free, here))))
 
-pub loop-i-preserved : goal.loop-i-preserved
-loop-i-preserved c =
+pub loop-row-init : goal.loop-row-init
+loop-row-init c =
+    let rs = c.args.rows.now in
+    subst (Renumbered c.args.borders.now.items rs 0) (sym (take-append-drop slots rs)) (c.requires.core, refl, c.requires.alone, λ k l. absurd (omega arith))
+
+pub offset_bounds-row-items-row-index : goal.offset_bounds-row-items-row-index
+offset_bounds-row-items-row-index c = let few = length-take slots c.args.rows.now in let l = c.loop-row-test.true in omega (arith, few, l)
+
+-- the rows from `slots` on are left
+module _ (items rest : List Halfedge) (i : ℕ) (l : i < length items) where
+  first : get_or (items ++ rest) i none ≡ get_or items i none
+  first = get_or-append items rest none i l
+
+  within : i < length (items ++ rest)
+  within = let n = length-append items rest in omega arith
+
+  turned : (items' : List Halfedge) (strip : ℕ) → items' ≡ set items i (with_strip strip (get_or items i none)) → items' ++ rest ≡ set (items ++ rest) i (with_strip strip (get_or (items ++ rest) i none))
+  turned items' strip e = ap (λ xs. xs ++ rest) e ∙ sym (set-append_left items rest i _ l) ∙ ap (λ y. set (items ++ rest) i (with_strip strip y)) (sym first)
+
+  view_turned : (items' : List Halfedge) (strip : ℕ) → items' ≡ set items i (with_strip strip (get_or items i none))
+      → seen (items' ++ rest) ≡ written (i + 1) (with_strip strip ((seen (items ++ rest)).row (i + 1))) (seen (items ++ rest))
+  view_turned items' strip e =
+      let v = seen (items ++ rest) in
+      let r : Halfedge = with_strip strip (get_or (items ++ rest) i none) in
+      ap seen (turned items' strip e) ∙ write_view max_edge slots (items ++ rest) i r within refl
+      ∙ ap₂ (λ k x. written k (with_strip strip x) v) (sym (add-one i)) (sym (row_is max_edge slots (items ++ rest) i) ∙ ap v.row (sym (add-one i)))
+
+  roomy_turned : (items' : List Halfedge) (strip : ℕ) → items' ≡ set items i (with_strip strip (get_or items i none)) → Roomy max_edge slots (items ++ rest) → Roomy max_edge slots (items' ++ rest)
+  roomy_turned items' strip e roomy = subst (Roomy max_edge slots) (sym (turned items' strip e)) (write_roomy max_edge slots (items ++ rest) i (with_strip strip (get_or (items ++ rest) i none)) within refl roomy)
+
+pub loop-row-preserved : goal.loop-row-preserved
+loop-row-preserved c =
     let bs = c.args.borders.now.items in
     let rs₀ = c.args.rows.now in
-    let rs = c.loop-i.rows in
-    let i = c.loop-i.i in
-    let r = get_or rs i none in
-    let e = row_is max_edge slots rs i in
-    let past = c.loop-i.invariant in
-    let below = c.loop-i-test.true in
+    let items = c.loop-row.row-items in
+    let rest = drop slots rs₀ in
+    let i = c.loop-row.row-index in
+    let r = get_or items i none in
+    let past = c.loop-row.invariant in
+    let same = c.loop-row.auto.row-items in
+    let short = length-take slots rs₀ in
+    let below = c.loop-row-test.true in
+    let l : i < length items = omega arith in
+    let under : i < slots = omega arith in
+    let v = seen (items ++ rest) in
+    let name_is : (v.row (suc i)).name ≡ r.name = ap (λ y. y.name) (row_is max_edge slots (items ++ rest) i) ∙ ap (λ y. y.name) (first items rest i l) in
+    let x_is : (v.row (suc i)).x ≡ r.x = ap (λ y. y.x) (row_is max_edge slots (items ++ rest) i) ∙ ap (λ y. y.x) (first items rest i l) in
     let fn : SFits w16 r.name = search rules in
-    elim c.if-rows-i-ne0.branch [
-      | then-rows-i-ne0 w ↦
-          let some : (((seen rs).row (suc i)).name ≡ pos 0 → ⊥) = λ z. w.if-rows-i-ne0.true (ap (of_z w16) (sym (ap (λ y. y.name) e) ∙ z)) in
-          let here = named_home max_edge slots (seen rs) past.0.indexed past.0.sound.0 past.2 (suc i) (omega arith) (omega arith) some in
+    elim c.if-row-ne0.branch [
+      | then-row-ne0 w ↦
+          let some : ((v.row (suc i)).name ≡ pos 0 → ⊥) = λ z. w.if-row-ne0.true (ap (of_z w16) (sym name_is ∙ z)) in
+          let here = named_home max_edge slots v past.0.indexed past.0.sound.0 past.2 (suc i) (omega arith) (omega arith) some in
           let fx : SFits w32 r.x = search rules in
-          let is : w.strip_of-strip.result ≡ strip_of bs ((seen rs).row (suc i)).x = w.strip_of-strip.ensures ∙ ap (strip_of bs) (to_z-of_z w32 r.x fx ∙ sym (ap (λ y. y.x) e)) in
-          subst (Renumbered bs rs₀ (i + 1)) (sym w.rows-is) (moved bs rs₀ i rs w.set_strip.new.rows w.strip_of-strip.result below past here is w.set_strip.ensures.view w.set_strip.ensures.roomy)
-      | else-rows-i-ne0 w ↦
-          let free : ((seen rs).row (suc i)).name ≡ pos 0 = ap (λ y. y.name) e ∙ same_name r.name (pos 0) fn (search rules) w.if-rows-i-ne0.false in
-          subst (Renumbered bs rs₀ (i + 1)) (sym w.rows-is) (left bs rs₀ i rs past free)
+          let strip = w.strip_of-row.result in
+          let is : strip ≡ strip_of bs (v.row (suc i)).x = w.strip_of-row.ensures ∙ ap (strip_of bs) (to_z-of_z w32 r.x fx ∙ sym x_is) in
+          moved bs rs₀ i (items ++ rest) (c.if-row-ne0.row-items ++ rest) strip under past here is (view_turned items rest i l c.if-row-ne0.row-items strip w.row-items-is) (roomy_turned items rest i l c.if-row-ne0.row-items strip w.row-items-is past.0.roomy)
+      | else-row-ne0 w ↦
+          let free : (v.row (suc i)).name ≡ pos 0 = name_is ∙ same_name r.name (pos 0) fn (search rules) w.if-row-ne0.false in
+          let back : c.if-row-ne0.row-items ≡ set items i r = w.row-items-is in
+          subst (λ xs. Renumbered bs rs₀ (i + 1) (xs ++ rest)) (sym (back ∙ set-get_or items i none)) (left bs rs₀ i (items ++ rest) past free)
     ]
 
 pub returns : goal.returns
 returns c =
     let bs = c.args.borders.now.items in
-    let past = c.loop-i-test.false in
-    let all = c.loop-i.invariant in
-    let v = seen c.loop-i.rows in
+    let rs₀ = c.args.rows.now in
+    let all = c.loop-row.invariant in
+    let long = c.requires.core.roomy.long in
+    let past = c.loop-row-test.false in
+    let every = length-take slots rs₀ in
+    let done : slots ≤ c.loop-row.row-index = omega arith in
+    let v = seen (c.loop-row.row-items ++ drop slots rs₀) in
     record {
       core = all.0;
       lines = all.1;

@@ -6,12 +6,12 @@ use chart::point::Point;
 use edits::{join, remove, split, sprout, start};
 use file::fault::{Fault, Layer};
 use file::le::{read_i16, read_i32, read_u16};
-use halfedges::halfedge::{FREE, Halfedge};
+use halfedges::halfedge::FREE;
 use questions::Counts;
 use questions::counting::counts;
 use reading::read;
 use strips::sheet::Sheet;
-use turning::limits::{LINE_NAMES, MARK_BYTES};
+use turning::limits::{LINE_NAMES, MARK_BYTES, SLOTS};
 use turning::refusal::Refusal;
 use writing::write::write;
 
@@ -97,34 +97,29 @@ fn carry(
     }
 }
 
-// Writes a number into a part of the answers.
-fn put(out: &mut [u8], at: usize, number: u16)
-    requires { at + 2 ≤ length out.old }
-    ensures { length out.new ≡ length out.old }
+// Writes numbers from the start of a place, two bytes each.
+fn put(place: &mut [u8], numbers: &[u16])
+    ensures { length place.new ≡ length place.old }
 {
-    out[at..at + 2].copy_from_slice(&number.to_le_bytes());
+    for (bytes, number) in place.chunks_exact_mut(2).zip(numbers) {
+        bytes.copy_from_slice(&number.to_le_bytes());
+    }
 }
 
 // Writes an answer, with its counts where they were asked for.
-fn put_answer(out: &mut [u8], answer: Result<(), Refusal>, c: Counts)
-    requires { 10 ≤ length out.old }
-    ensures { length out.new ≡ length out.old }
+fn put_answer(place: &mut [u8], answer: Result<(), Refusal>, c: Counts)
+    ensures { length place.new ≡ length place.old }
 {
     let number = match answer {
         Ok(()) => 0,
         Err(refusal) => refusal as u8 as u16,
     };
-    put(out, 0, number);
-    put(out, 2, c.vertices);
-    put(out, 4, c.edges);
-    put(out, 6, c.loops);
-    put(out, 8, c.pieces);
+    put(place, &[number, c.vertices, c.edges, c.loops, c.pieces]);
 }
 
-// Writes a fault in the place of the first answer.
-fn put_fault(out: &mut [u8], fault: Fault)
-    requires { 10 ≤ length out.old }
-    ensures { length out.new ≡ length out.old }
+// Writes a fault in the place of an answer.
+fn put_fault(place: &mut [u8], fault: Fault)
+    ensures { length place.new ≡ length place.old }
 {
     let layer = match fault.layer {
         Layer::File => 1,
@@ -133,10 +128,10 @@ fn put_fault(out: &mut [u8], fault: Fault)
         Layer::Flat => 4,
         Layer::Call => 5,
     };
-    put(out, 0, layer);
-    put(out, 2, fault.number as u16);
-    put(out, 4, fault.strip);
-    put(out, 6, fault.place);
+    put(
+        place,
+        &[layer, fault.number as u16, fault.strip, fault.place],
+    );
 }
 
 // The counts where they are asked for; else none.
@@ -174,13 +169,13 @@ fn carry_all(
 
 // Reads the file into a sheet of its own, carries out the calls, and writes the sheet. Answers the length of what was written, -29 where the out buffer is short, and -1 where the file has a fault, which then stands in the place of the first answer.
 pub fn engine_run(file: &[u8], calls: &[u8], answers: &mut [u8], out: &mut [u8]) -> i64 {
-    let mut memory: [Halfedge; 4000] = [FREE; 4000];
+    let mut memory = [FREE; SLOTS];
     let mut sheet = Sheet::new(&mut memory);
     let mut marks = [0u8; MARK_BYTES];
     let mut line = [0i16; LINE_NAMES];
     if let Err(fault) = read(&mut sheet, file, &mut marks, &mut line) {
-        if ANSWER <= answers.len() {
-            put_fault(answers, fault);
+        if let Some(place) = answers.chunks_exact_mut(ANSWER).next() {
+            put_fault(place, fault);
         }
         return -1;
     }

@@ -20,6 +20,3 @@ fill-requires g c =
     let long : slots ≤ length c.args.rows.now.at.now = leb-true _ _ (sym c.if-not-is_long.ensures) in
     let l = lines_of g.C.Turning.turn g.C.Chart.points c.args.chart.now in
     record { long = long; room = subst (λ r. slots_taken c.args.borders.now.items l max_edge ≤ r) (long_room c.args.rows.now.at.now long) c.requires.room }
-
-pub returns : goal.returns
-returns g c = record { kept = λ _. c.fill.ensures.stripped; lines = c.fill.ensures.lines; length = c.fill.ensures.length }

@@ -11,9 +11,6 @@ use Rattle.strips.proofs.sheet.Sheet.has_room.Goals as goal
 pub count_used-requires : goal.count_used-requires
 count_used-requires c = kept_lent c.args.self.now.borders.items _ c.args.self.now.ok (leb-true _ _ (sym c.if-not-is_long.ensures))
 
-pub overflow_add-result : goal.overflow_add-result
-overflow_add-result c = omega (arith, c.abs_diff-crossed.type_inv)
-
 pub overflow_add-result-2 : goal.overflow_add-result-2
 overflow_add-result-2 c = omega (arith, used_within slots (seen c.args.self.now.rows.at.now), c.count_used.ensures, c.abs_diff-crossed.type_inv)
 

@@ -6,9 +6,6 @@ use Rattle.strips.specs.Sheets.{room_of}
 use Rattle.strips.proofs.Laying.{passed, all_yes}
 use Rattle.strips.proofs.sheet.Sheet.layout.Goals as goal
 
-pub put_chart-requires : goal.put_chart-requires
-put_chart-requires g c = omega (arith, c.slots_needed.ensures, c.slot_count.ensures, c.if-slots_needed-slot_count.false)
-
 pub invariant_of-self : goal.invariant_of-self
 invariant_of-self g c =
     let p = passed c.args.borders.now c.in_ok-cut.cut.items c.in_ok-cut.ensures in

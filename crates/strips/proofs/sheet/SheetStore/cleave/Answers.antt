@@ -34,9 +34,6 @@ cleave_through-requires c =
     let h = cleavable bs rs s.ok a.edge a.east a.at c.in-Some.to may (sym c.east_end.ensures ∙ c.in-Some.is) in
     record { stripped = h.stripped; cuts = h.cuts; room = h.room }
 
-pub invariant_of-self : goal.invariant_of-self
-invariant_of-self c = record { ok = ∣ (λ _. c.cleave_through.ensures.stripped) ∣₁; rises = c.args.self.now.rises }
-
 pub returns : goal.returns
 returns c = record {
   told = told c.args.self.now.borders.items c.args.self.now.rows.at.now c.args.edge c.args.east c.args.at c.has_room-fits.result true c.if-not-may_cleave.ensures c.has_room-fits.ensures;

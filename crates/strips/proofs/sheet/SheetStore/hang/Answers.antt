@@ -26,9 +26,6 @@ hang_through-requires c =
     let h = hangable bs rs s.ok a.edge a.a a.b w.result may w.ensures.west w.ensures.east in
     record { stripped = h.stripped; ends = h.ends; room = h.room }
 
-pub invariant_of-self : goal.invariant_of-self
-invariant_of-self c = record { ok = ∣ (λ _. c.hang_through.ensures.stripped) ∣₁; rises = c.args.self.now.rises }
-
 pub returns : goal.returns
 returns c = record {
   told = told c.args.self.now.borders.items c.args.self.now.rows.at.now c.args.edge c.args.a c.args.b c.has_room-fits.result true c.if-not-may_hang.ensures c.has_room-fits.ensures;

@@ -8,9 +8,6 @@ lift_through-requires c =
     let here = sym c.if-not-holds_edge.ensures in
     record { stripped = kept_out s.borders.items s.rows.at.now s.ok (held_long s.rows.at.now _ here); here = here }
 
-pub invariant_of-self : goal.invariant_of-self
-invariant_of-self c = record { ok = ∣ (λ _. c.lift_through.ensures.stripped) ∣₁; rises = c.args.self.now.rises }
-
 pub returns : goal.returns
 returns c = record {
   told = search rules;

@@ -55,15 +55,10 @@ impl<'a> Sheet<'a> {
         if !self.holds(h) {
             return Err(Refusal::NotThere);
         }
-        let opposite = -h;
-        let Some(p) = self.point(h) else {
-            return Err(Refusal::NotThere);
-        };
-        let Some(q) = self.point(opposite) else {
-            return Err(Refusal::NotThere);
-        };
-        let here = strip_of(&self.borders, p.x);
-        let there = strip_of(&self.borders, q.x);
+        let from = self.point(h).ok_or(Refusal::NotThere)?;
+        let to = self.point(-h).ok_or(Refusal::NotThere)?;
+        let here = strip_of(&self.borders, from.x);
+        let there = strip_of(&self.borders, to.x);
         home_between(strip, here, there)
     }
 }

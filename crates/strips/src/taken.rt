@@ -14,10 +14,7 @@ use turning::limits::MAX_EDGE;
 pub fn strip_at(borders: &Borders, told: Option<Point>) -> u16
     ensures { result ≡ strip_of borders.now.items (x_of told) }
 {
-    match told {
-        None => strip_of(borders, 0),
-        Some(p) => strip_of(borders, p.x),
-    }
+    strip_of(borders, told.map_or(0, |p| p.x))
 }
 
 // How many slots an edge of the chart takes: two in each strip that it runs through. A strip's number has 16 bits, so they are few enough to add up.

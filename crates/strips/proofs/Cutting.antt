@@ -53,16 +53,6 @@ strip_monotone (b ∷ bs) x y l = go (lt_z x b) refl (lt_z y b) refl (strip_mono
 pub strips_rise : StripsRise
 strips_rise bs x y = (strip_low bs x, strip_high bs x, strip_monotone bs x y)
 
--- ---- borders passed one by one
-pub strip_past : (bs : List ℤ) (x : ℤ) (i : ℕ) → length bs ≤ i → strip_of (drop i bs) x ≡ 1
-strip_past bs x i l = ap (λ cs. strip_of cs x) (drop_all i bs l) ∙ strip_none x
-
-pub strip_here : (bs : List ℤ) (x : ℤ) (i : ℕ) → i < length bs → lt_z x (get_or bs i (pos 0)) ≡ true → strip_of (drop i bs) x ≡ 1
-strip_here bs x i l e = ap (λ cs. strip_of cs x) (drop_more bs i (pos 0) l) ∙ strip_west _ _ x e
-
-pub strip_more : (bs : List ℤ) (x : ℤ) (i : ℕ) → i < length bs → lt_z x (get_or bs i (pos 0)) ≡ false → strip_of (drop i bs) x ≡ suc (strip_of (drop (i + 1) bs) x)
-strip_more bs x i l e = ap (λ cs. strip_of cs x) (drop_more bs i (pos 0) l) ∙ strip_east _ _ x e
-
 -- ---- borders that rise
 pub rise_parts : (last b : ℤ) (bs : List ℤ) → rise_after last (b ∷ bs) ≡ true → (within b ≡ true) × (lt_z last b ≡ true) × (rise_after b bs ≡ true)
 rise_parts last b bs r =

@@ -42,9 +42,6 @@ names_on e h n = go (tell (pos e) h) (tell (neg_ℤ (pos e)) h)
     go (inr p) (inl q) = inr q.1
     go (inr p) (inr q) = absurd (grind (arith, tell (pos e) h, tell (neg_ℤ (pos e)) h, p, q, n))
 
-pub abs_plus : (e : ℕ) → nat_abs (pos e) ≡ e
-abs_plus e = refl
-
 pub abs_minus : (e : ℕ) → nat_abs (neg_ℤ (pos e)) ≡ e
 abs_minus zero = refl
 abs_minus (suc e) = refl

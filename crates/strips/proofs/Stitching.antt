@@ -1,5 +1,5 @@
 -- One border more or less: the strips, the slots, and the borders' order. Assumes nothing.
-use Rattle.std.proofs.Common.{◌≡◌, ℕ, zero, suc, ◌+◌, ◌*◌, ◌≤◌, Bool, true, false, cond, not, ◌&&◌, ◌||◌, List, [], ◌∷◌, length, ℤ, pos, negsuc, neg_ℤ, ◌≤ℤ◌, Some, None, Option, sym, refl, ap, ◌∙◌, subst, ap₂, arith}
+use Rattle.std.proofs.Common.{◌≡◌, ℕ, zero, suc, ◌+◌, ◌*◌, ◌≤◌, Bool, true, false, cond, not, ◌&&◌, ◌||◌, List, [], ◌∷◌, ℤ, pos, negsuc, neg_ℤ, ◌≤ℤ◌, Some, None, Option, sym, refl, ap, ◌∙◌, subst, ap₂, arith}
 use lib.Signed.{lt_z}
 use Rattle.std.proofs.lemmas.Int.{ints}
 use Rattle.std.proofs.lemmas.Bool.{cond-true, cond-false, and_from, or_parts, both_ways}
@@ -144,14 +144,6 @@ module _ (n : ℕ) (l : Linework) (placed : Placed n l.turn l.points) (x : ℤ) 
       sum a b c d e f p q = omega arith
 
 -- ---- the order
-pub length_with : (x : ℤ) (bs : List ℤ) → length (with_border x bs) ≡ suc (length bs)
-length_with x [] = ap length (with_none x)
-length_with x (b ∷ bs) = go (lt_z x b) refl (length_with x bs)
-  where
-    go : (t : Bool) → lt_z x b ≡ t → length (with_border x bs) ≡ suc (length bs) → length (with_border x (b ∷ bs)) ≡ suc (length (b ∷ bs))
-    go true e rec = ap length (with_here x b bs e)
-    go false e rec = ap length (with_later x b bs e) ∙ ap suc rec
-
 rise_from : (last b : ℤ) (bs : List ℤ) → within b ≡ true → lt_z last b ≡ true → rise_after b bs ≡ true → rise_after last (b ∷ bs) ≡ true
 rise_from last b bs u v w = and_from (within b && lt_z last b) (rise_after b bs) (and_from (within b) (lt_z last b) u v) w
 

@@ -16,6 +16,7 @@ pub recut_lines : (n : ℕ) (r : Outcome) (bs : List ℤ) (m m' : Meaning) → B
 recut_lines n (Ok _) bs m m' h = ap (λ k. k.lines) h
 recut_lines n (Err _) bs m m' h = ap (λ k. k.lines) h
 
+-- what a call changes keeps flat line work flat
 changed_flat : (m : Meaning) (x : SheetCall) (r : Outcome) (y : SheetCall) (m' : Meaning) → SheetChanged m x r y m' → FlatAt m → FlatAt m'
 changed_flat m (AnEdit _) r (AnEdit _) m' s f = s.flat f
 changed_flat m (AnEdit _) r (Cut _) m' s f = absurd s

@@ -9,10 +9,10 @@ loop-k-preserved c =
     let in_y : SFits w32 c.point-point.result.y = search rules in
     let x = to_z-of_z w32 c.point-point.result.x in_x in
     let y = to_z-of_z w32 c.point-point.result.y in_y in
-    let there : c.loop-k.k < length c.loop-k.vertices = omega (arith, c.loop-k.auto.vertices, c.requires.1) in
+    let there : c.loop-k.k < length c.loop-k.vertices = omega (arith, c.loop-k.auto.vertices, c.requires) in
     below_more _ _
     (λ n h. let other : n ≢ c.loop-k.k = omega arith in rw get_or-set_other (c.loop-k.invariant n h))
     (get_or-set_same _ _ _ _ there ∙ cc (x, y, c.point-point.ensures))
 
 pub returns : goal.returns
-returns c = record { count = c.loop-k.auto.vertices ∙ c.requires.1; all = λ k h. c.loop-k.invariant k (omega arith) }
+returns c = record { count = c.loop-k.auto.vertices ∙ c.requires; all = λ k h. c.loop-k.invariant k (omega arith) }

@@ -41,6 +41,7 @@ fn claim_home(
     true
 }
 
+// A loop, and not `ask_each`: each slot is marked as it is asked, so that the next one is asked of other marks.
 fn all_claimed(
     judged: JudgedFile<'_>,
     j: u16,

@@ -7,18 +7,17 @@ ghost use Rattle.file.specs.Views.{told};
 ghost use Rattle.seam_questions.specs.Vertices.{Sound, line_at, slot_at, vertex_at, NumberedBelow, Numbered};
 
 use file::view::Strip;
-use turning::limits::{LINE_NAMES, MAX_NAME};
+use strip_questions::place::place_of;
+use turning::limits::LINE_NAMES;
 
+// The line has no place for 0: the names above it move up by one.
 fn line_place(name: i16) -> usize
     requires { named max_edge name ≡ true }
     ensures value { result ≡ line_at max_edge name }
     ensures within { result < line_for max_edge }
 {
-    if 1 <= name {
-        (name + (MAX_NAME - 1)) as usize
-    } else {
-        (name + MAX_NAME) as usize
-    }
+    let place = place_of(name);
+    if 1 <= name { place - 1 } else { place }
 }
 
 // The place of the name in slot i.
@@ -62,6 +61,7 @@ fn put_vertex(line: &mut [i16; LINE_NAMES], place: usize, v: u16)
     line[place] = (v + 1) as i16;
 }
 
+// A walk and no iterator: the place that is written next is read from the slot itself.
 fn number_round(s: Strip<'_>, i: u16, v: u16, line: &mut [i16; LINE_NAMES])
     requires sound { Sound (told s) }
     requires slot { i < s.slots }
@@ -85,10 +85,7 @@ fn opens_round(s: Strip<'_>, i: u16, line: &[i16; LINE_NAMES]) -> bool
     requires numbered { NumberedBelow (told s) i line.now }
     ensures { result ≡ opens (told s.entry) i }
 {
-    match vertex_at(line, line_in(s, i)) {
-        Some(_) => false,
-        None => s.is_home(i),
-    }
+    s.is_home(i) && vertex_at(line, line_in(s, i)).is_none()
 }
 
 fn number_rounds(s: Strip<'_>, line: &mut [i16; LINE_NAMES])

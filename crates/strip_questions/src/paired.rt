@@ -24,6 +24,7 @@ fn mark_all(s: Strip<'_>, marks: &mut [u8; MARK_BYTES])
     }
 }
 
+// A loop, and not `ask_each`: each slot is marked as it is asked, so that the next one is asked of other marks.
 fn find_unpaired(s: Strip<'_>, number: u16, marks: &mut [u8; MARK_BYTES]) -> Result<(), StripFault>
     requires named { (k : ℕ) → k < s.slots → name_good max_edge (told s) k ≡ true }
     requires marked { (z : ℤ) → named max_edge z ≡ true → slice_index marks.old (mark_at max_edge z) ≡ (if names (told s) s.slots z then 1 else 0) }

@@ -42,12 +42,13 @@ fn list_vertices(s: Strip<'_>, vertices: &mut [Vertex])
     requires { length vertices.old ≡ s.vertices }
     ensures { Listed (told s.entry) vertices.new }
 {
-    for k in 0..s.vertices {
-        let point = s.point(k);
-        vertices[k as usize] = Vertex {
+    for (k, vertex) in vertices.iter_mut().enumerate() {
+        let place = k as u16;
+        let point = s.point(place);
+        *vertex = Vertex {
             x: point.x,
             y: point.y,
-            place: k,
+            place,
         };
     }
 }

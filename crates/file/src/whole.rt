@@ -32,7 +32,7 @@ fn count_strips(bytes: &[u8]) -> Result<u16, FileFault>
     Ok(count)
 }
 
-// Question 3: where the strips end.
+// Question 3: where the strips end. A loop, and not `ask_each`: each turn adds to the sums that the next one is asked of.
 fn sizes_fit(bytes: &[u8], count: u16) -> Result<usize, FileFault>
     requires count { count ≡ strips bytes.now }
     requires some { 1 ≤ count }

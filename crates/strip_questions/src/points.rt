@@ -13,7 +13,7 @@ use file::questions::{StripFault, StripQuestion};
 use file::view::Strip;
 use turning::limits::SLOTS;
 
-// A vertex of a strip by its point and its place, and so ordered: equal points by their places.
+// A vertex of a strip by its point and its place, and so ordered: equal points by their places. Its coordinates stand apart, since a point has no order.
 #[derive(Clone, Copy, PartialEq, Eq, PartialOrd, Ord)]
 struct Vertex {
     x: i32,
@@ -64,6 +64,7 @@ fn lower_of(found: Option<u16>, place: u16) -> u16
 }
 
 // The lowest place of a vertex that has the point of its left neighbour.
+// By index: of windows(2) with filter, map and min, the goal `returns` stayed open, that the run of `min` tells `Lowest`.
 fn lowest_repeat(sorted: &[Vertex]) -> Option<u16>
     ensures { Lowest sorted.now (length sorted.now) result }
 {

@@ -12,6 +12,7 @@ use file::questions::{StripFault, StripQuestion};
 use file::view::Strip;
 use turning::limits::MARK_BYTES;
 
+// A walk by the strip itself: the slot that is marked next is the follower of this one.
 fn mark_round(s: Strip<'_>, i: u16, marks: &mut [u8; MARK_BYTES])
     requires few { s.slots ≤ max_slots }
     requires turned { Turned (told s) }

@@ -1,11 +1,11 @@
-use Rattle.std.proofs.Common.{◌≡◌, true, [], ◌∷◌, length, None, refl, sym, ◌∙◌, arith, rules}
+use Rattle.std.proofs.Common.{◌≡◌, true, [], ◌∷◌, length, None, sym, ◌∙◌, arith, rules}
 use Rattle.std.proofs.lemmas.Bool.Decides.{nat_tests}
 use Rattle.file.specs.declared.questions.FileQuestion.TheVariants.{Length}
 use Rattle.file.specs.Layout.{strip_at}
 use Rattle.file.specs.Places.{first_of}
 use Rattle.file.specs.Questions.{length_right}
 use Rattle.file.specs.Verdict.{q1, q2, q3, q4, q5, file_verdict, file_fault}
-use Rattle.file.proofs.Places.{both_none, last_one, ok_none, ok_same, answer_same, once_right}
+use Rattle.file.proofs.Places.{both_none, last_one, ok_none, ok_same, once_right}
 use Rattle.file.proofs.Sizes.{file_none, shaped}
 use Rattle.file.proofs.whole.ask_file.Goals as goal
 

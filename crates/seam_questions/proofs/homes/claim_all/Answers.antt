@@ -1,17 +1,15 @@
-use Rattle.std.proofs.Common.{◌≡◌, ℕ, ◌+◌, ◌<◌, length, get_or, None, Err, sym, ap, ◌∙◌, arith, below_more}
+use Rattle.std.proofs.Common.{ℕ, ◌+◌, ◌<◌, length, get_or, Err, ap, ◌∙◌, arith, below_more}
 use Rattle.std.proofs.lemmas.List.{get_or-replicate}
 use Rattle.std.proofs.lemmas.Result.{err_from_is_err_and}
-use Rattle.turning.specs.Limits.{max_edge, max_strips}
+use Rattle.turning.specs.Limits.{max_edge}
 use Rattle.file.specs.declared.questions.SeamQuestion.TheVariants.{Homes}
 use Rattle.file.specs.Layout.{strips, strip}
 use Rattle.file.specs.Places.{at, each}
 use Rattle.file.specs.Questions.{home_new}
-use Rattle.file.specs.Views.{told}
 use Rattle.file.specs.Verdict.{seam_fault, q15}
 use Rattle.file.proofs.Places.{ok_none, question_some, answer_some, answer_none, first_fault_is, first_fault_none}
 use Rattle.search.specs.Marks.{place as mark_at}
 use Rattle.strip_questions.proofs.Marks.{mark_within}
-use Rattle.seam_questions.proofs.SideMarks.{lent_good}
 use Rattle.seam_questions.proofs.HomeMarks.{none_yet}
 use Rattle.seam_questions.proofs.homes.claim_all.Goals as goal
 

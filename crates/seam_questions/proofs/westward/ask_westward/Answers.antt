@@ -1,6 +1,5 @@
-use Rattle.std.proofs.Common.{◌≡◌, ◌+◌, ◌<◌, None, Err, sym, ap, ◌∙◌, arith, rules, below_more}
+use Rattle.std.proofs.Common.{◌≡◌, ◌+◌, ◌<◌, None, Err, sym, ap, ◌∙◌, arith, below_more}
 use Rattle.std.proofs.lemmas.Result.{err_from_is_err_and}
-use Rattle.turning.specs.Limits.{max_strips}
 use Rattle.file.specs.declared.questions.SeamQuestion.TheVariants.{WestFirst}
 use Rattle.file.specs.Layout.{strips, strip}
 use Rattle.file.specs.Places.{at, each}

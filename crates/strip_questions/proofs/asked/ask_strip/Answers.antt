@@ -1,4 +1,4 @@
-use Rattle.std.proofs.Common.{Err, sym, ap, ◌∙◌, rules}
+use Rattle.std.proofs.Common.{Err, sym, ap, ◌∙◌}
 use Rattle.std.proofs.lemmas.Result.{err_from_is_err_and}
 use Rattle.turning.specs.Limits.{max_edge}
 use Rattle.file.specs.declared.questions.StripQuestion.TheVariants.{Names, Followers, Followed}

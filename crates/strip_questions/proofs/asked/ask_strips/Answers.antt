@@ -4,7 +4,6 @@ use Rattle.std.specs.Result.{result_err}
 use Rattle.file.specs.Layout.{strips, strip, western, eastern}
 use Rattle.file.specs.Views.{told}
 use Rattle.file.specs.Verdict.{strip_verdict, strips_verdict}
-use Rattle.file.specs.Judged.{Judged}
 use Rattle.file.proofs.Judged.{judged}
 use Rattle.file.proofs.Places.{ok_none, question_some, first_fault_is, first_fault_none}
 use Rattle.strip_questions.proofs.Judging.{of_strip}

@@ -1,6 +1,5 @@
-use Rattle.std.proofs.Common.{◌≡◌, ◌<◌, ◌≤◌, length, get_or, set, ap, ◌∙◌, arith, rules}
+use Rattle.std.proofs.Common.{◌≡◌, ◌<◌, ◌≤◌, length, get_or, set, ap, ◌∙◌, arith}
 use Rattle.std.proofs.lemmas.List.{get_or-replicate}
-use Rattle.turning.specs.Limits.{max_edge, marks_for}
 use Rattle.file.specs.Views.{told}
 use Rattle.strip_questions.specs.Counts.{one_more}
 use Rattle.strip_questions.proofs.Counts.{count_set, count_skip, is_slot}

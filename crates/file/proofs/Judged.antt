@@ -2,6 +2,7 @@
 use Rattle.std.proofs.Common.{◌≡◌, ℕ, ◌+◌, ◌<◌, Bool, true, false, List, [], ◌∷◌, ℤ, None, Option, sym, refl, ◌∙◌, arith}
 use Rattle.std.proofs.lemmas.Bool.{eqb-true}
 use Rattle.turning.specs.Limits.{max_edge}
+use Rattle.file.specs.declared.questions.StripQuestion.TheVariants.{Names, Pairs, Followers, Followed, Rounds, Points, NewPoints}
 use Rattle.file.specs.Places.{once, at}
 use Rattle.file.specs.Layout.{strips, strip, western, eastern}
 use Rattle.file.specs.Strips.{Strip, rounds}
@@ -33,14 +34,14 @@ module _ (w e : Option ℤ) (s : Strip) (j : ℕ) (v : strip_verdict w e s j ≡
 pub judged : (b : List ℕ) (n : ℕ) → n ≡ strips b → strips_verdict b ≡ None → Judged b n
 unfolding strips_verdict
 judged b n c v = record {
-  named = λ j h. each_good (strip_fault 6 (j + 1)) (strip b j).slots (name_good max_edge (strip b j)) (at_strip j h).0;
-  pairs = λ j h. each_good (strip_fault 7 (j + 1)) (strip b j).slots (paired (strip b j)) (at_strip j h).1.0;
+  named = λ j h. each_good (strip_fault Names (j + 1)) (strip b j).slots (name_good max_edge (strip b j)) (at_strip j h).0;
+  pairs = λ j h. each_good (strip_fault Pairs (j + 1)) (strip b j).slots (paired (strip b j)) (at_strip j h).1.0;
   turned = λ j h. turned (strip b j)
-      (each_good (strip_fault 8 (j + 1)) (strip b j).slots (follower_good (strip b j)) (at_strip j h).1.1.0)
-      (each_good (strip_fault 9 (j + 1)) (strip b j).slots (followed_right (strip b j)) (at_strip j h).1.1.1.0);
-  round = λ j h. eqb-true (rounds (strip b j)) (strip b j).vertices (once_true (λ _. strip_fault 10 (j + 1) 0) _ (at_strip j h).1.1.1.1.0);
-  placed = λ j h. each_good (strip_fault 11 (j + 1)) (strip b j).vertices (point_good (western b j) (eastern b j) (strip b j)) (at_strip j h).1.1.1.1.1.0;
-  parted = λ j h. each_good (strip_fault 12 (j + 1)) (strip b j).vertices (point_new (strip b j)) (at_strip j h).1.1.1.1.1.1;
+      (each_good (strip_fault Followers (j + 1)) (strip b j).slots (follower_good (strip b j)) (at_strip j h).1.1.0)
+      (each_good (strip_fault Followed (j + 1)) (strip b j).slots (followed_right (strip b j)) (at_strip j h).1.1.1.0);
+  round = λ j h. eqb-true (rounds (strip b j)) (strip b j).vertices (once_true (λ _. strip_fault Rounds (j + 1) 0) _ (at_strip j h).1.1.1.1.0);
+  placed = λ j h. each_good (strip_fault Points (j + 1)) (strip b j).vertices (point_good (western b j) (eastern b j) (strip b j)) (at_strip j h).1.1.1.1.1.0;
+  parted = λ j h. each_good (strip_fault NewPoints (j + 1)) (strip b j).vertices (point_new (strip b j)) (at_strip j h).1.1.1.1.1.1;
 }
   where
     at_strip : (j : ℕ) → j < n → AllNone (western b j) (eastern b j) (strip b j) (j + 1)

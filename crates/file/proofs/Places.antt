@@ -1,6 +1,7 @@
 -- The steps of a loop that looks for the first bad place.
-use Rattle.std.proofs.Common.{◌≡◌, ℕ, zero, suc, ◌+◌, ◌-◌, ◌<◌, ◌≤◌, Bool, true, false, cond, ◌||◌, List, [], ◌∷◌, Some, None, Ok, Err, Option, sym, refl, ap, ◌∙◌, subst, ⊎_elim, add-one, arith}
+use Rattle.std.proofs.Common.{◌≡◌, ℕ, zero, suc, ◌+◌, ◌-◌, ◌<◌, ◌≤◌, Bool, true, false, cond, not, ◌||◌, List, [], ◌∷◌, Some, None, Ok, Err, Option, sym, refl, ap, ◌∙◌, subst, ⊎_elim, add-one, arith}
 use Rattle.std.proofs.lemmas.Bool.{cond-true, cond-false, cases_order, cases_Bool, or_left, or_right}
+use Rattle.std.specs.Option.{is_some}
 use Rattle.flat.specs.Orbits.{indicator}
 use Rattle.file.specs.Places.{first_bad, sum_below, count_below, any_below, answered, at, first_from, first_of}
 
@@ -184,6 +185,24 @@ any_where p (suc n) e = ⊎_elim (λ t. (n, omega arith, t)) (λ f. up (any_wher
     up : (i : ℕ) × (i < n) × (p i ≡ true) → (i : ℕ) × (i < suc n) × (p i ≡ true)
     up r = let l : r.0 < n = r.1 in (r.0, omega arith, r.2)
 
+-- some place passes a test where one is the first to fail its negation
+pub some_each : (p : ℕ → Bool) (n : ℕ) (o : Option ℕ) → o ≡ first_bad (λ m. not (p m)) 0 n → is_some o ≡ any_below p n
+some_each p n None e = sym (none_any p n (λ i h. not_true (p i) (good_below (λ m. not (p m)) 0 n (sym e) i (omega arith) (omega arith))))
+  where
+    not_true : (b : Bool) → not b ≡ true → b ≡ false
+    not_true b h = grind arith
+some_each p n (Some k) e = ⊎_elim
+    (λ t. sym t)
+    (λ f. let z : ◌≡◌ {A = Option ℕ} (Some k) None = e ∙ first_bad_none (λ m. not (p m)) n (λ i h. ap not (any_none p n f i h)) in
+    let y : ◌≡◌ {A = ℕ} 0 1 = cc in absurd (omega arith))
+    (cases_Bool (any_below p n))
+
+pub none_each : (p : ℕ → Bool) (n : ℕ) (o : Option ℕ) (b : Bool) → is_some o ≡ not b → o ≡ first_bad (λ m. not (p m)) 0 n → b ≡ not (any_below p n)
+none_each p n o b h e = flipped (is_some o) b (any_below p n) h (some_each p n o e)
+  where
+    flipped : (a b c : Bool) → a ≡ not b → a ≡ c → b ≡ not c
+    flipped a b c h e = grind arith
+
 pub count_more : (p : ℕ → Bool) (k : ℕ) → count_below p (k + 1) ≡ indicator (p k) + count_below p k
 count_more p k = rw add-one refl
 
@@ -208,3 +227,7 @@ last_one (Some x) = refl
 -- a question asked of n places and answered yes holds at each
 pub each_good : {F : Type 0} (f : ℕ → F) (n : ℕ) (good : ℕ → Bool) → at f (first_bad good 0 n) ≡ None → (i : ℕ) → i < n → good i ≡ true
 each_good f n good e i h = good_below good 0 n (place_none f (first_bad good 0 n) e) i (omega arith) (omega arith)
+
+-- a question that is answered yes, of each place
+pub asked_good : {F A : Type 0} (f : ℕ → F) (n : ℕ) (good : ℕ → Bool) (u v : A) → Ok u ≡ answered (at f (first_bad good 0 n)) v → (i : ℕ) → i < n → good i ≡ true
+asked_good f n good u v e = each_good f n good (ok_none (at f (first_bad good 0 n)) u v e)

@@ -4,6 +4,7 @@ use Rattle.std.proofs.Common.{◌≡◌, ℕ, ◌+◌, ◌*◌, ◌<◌, ◌≤�
 use Rattle.std.specs.List.{between}
 use Rattle.std.proofs.lemmas.Bool.Decides.{nat_tests}
 use Rattle.turning.specs.Limits.{slots as max_slots, max_strips}
+use Rattle.file.specs.declared.questions.FileQuestion.TheVariants.{SizesFit}
 use Rattle.file.specs.Bytes.{u16_at}
 use Rattle.file.specs.Places.{first_of, at}
 use Rattle.file.specs.Layout.{strips, slots_in, vertices_in, strip_at, strip_length, strip_part, strip}
@@ -20,7 +21,7 @@ file_none b p q r s t =
     ∙ ap (λ o. first_of (o ∷ q4 b ∷ q5 b ∷ [])) r ∙ ap (λ o. first_of (o ∷ q5 b ∷ [])) s ∙ ap (λ o. first_of (o ∷ [])) t
 
 size_at : (b : List ℕ) → q3 b ≡ None → (j : ℕ) → j < strips b → size_good b j ≡ true
-size_at b e j h = good_below (size_good b) 0 (strips b) (place_none (λ k. file_fault 3 (k + 1) 0) _ e) j (omega arith) (omega arith)
+size_at b e j h = good_below (size_good b) 0 (strips b) (place_none (λ k. file_fault SizesFit (k + 1) 0) _ e) j (omega arith) (omega arith)
 
 pub shaped : (b : List ℕ) (n : ℕ) → n ≡ strips b → 1 ≤ n → n ≤ max_strips → length b ≡ strip_at b n → q3 b ≡ None → Shaped b n
 shaped b n c s f w e = record {

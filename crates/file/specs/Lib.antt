@@ -6,6 +6,8 @@ pub mod Shapes
 pub mod Views
 pub mod Questions
 pub mod Lines
+pub mod Numbers
+pub mod Faults
 pub mod Judged
 pub mod Verdict
 pub mod Specimens

@@ -4,91 +4,107 @@ use Rattle.std.specs.Prelude.{ℕ, ◌+◌, ◌-◌, Bool, List, [], ◌∷◌, 
 use Rattle.turning.specs.Limits.{max_edge}
 use Rattle.chart.specs.Linework.{Linework}
 use Rattle.file.specs.declared.fault.Fault.{Fault}
-use Rattle.file.specs.declared.fault.FileFault.{FileFault}
-use Rattle.file.specs.declared.fault.StripFault.{StripFault}
-use Rattle.file.specs.declared.fault.SeamFault.{SeamFault}
+use Rattle.file.specs.declared.fault.QuestionFault.{QuestionFault}
 use Rattle.file.specs.declared.fault.Layer.TheVariants.{File, Strip, Seam, Flat}
+use Rattle.file.specs.declared.questions.FileQuestion.{FileQuestion}
+use Rattle.file.specs.declared.questions.FileQuestion.TheVariants.{Count, SizesThere, SizesFit, Length, Borders}
+use Rattle.file.specs.declared.questions.StripQuestion.{StripQuestion}
+use Rattle.file.specs.declared.questions.StripQuestion.TheVariants.{Names, Pairs, Followers, Followed, Rounds, Points, NewPoints}
+use Rattle.file.specs.declared.questions.SeamQuestion.{SeamQuestion}
+use Rattle.file.specs.declared.questions.SeamQuestion.TheVariants.{RunsOn, StartsHere, Homes, WestFirst}
+use Rattle.file.specs.Numbers.{file_number, strip_number, seam_number}
+use Rattle.file.specs.Faults.{fault_at, told_fault}
 use Rattle.file.specs.Places.{at, each, once, first_of, first_from}
 use Rattle.file.specs.Layout.{strips, strip, western, eastern}
 use Rattle.file.specs.Strips as of
 use Rattle.file.specs.Questions.{count_good, sizes_there, size_good, length_right, border_good, name_good, paired, follower_good, followed_right, point_good, point_new, runs_on, starts_here, home_new, west_first}
 use Rattle.file.specs.Lines.{lines_of, flat}
 
--- a fault of question n, strip s, place p, in the layer of the file
-abbrev pub file_fault : ℕ → ℕ → ℕ → FileFault
-file_fault n s p = record { number = n; strip = s; place = p }
+-- a fault of the whole file, of a strip, of the seams
+abbrev pub FileFault : Type 0
+FileFault = QuestionFault FileQuestion
+
+abbrev pub StripFault : Type 0
+StripFault = QuestionFault StripQuestion
+
+abbrev pub SeamFault : Type 0
+SeamFault = QuestionFault SeamQuestion
+
+-- the fault of question q of the whole file, strip s, place p
+abbrev pub file_fault : FileQuestion → ℕ → ℕ → FileFault
+file_fault = fault_at
 
 -- the same in the layer of the strips
-abbrev pub strip_fault : ℕ → ℕ → ℕ → StripFault
-strip_fault n s p = record { number = n; strip = s; place = p }
+abbrev pub strip_fault : StripQuestion → ℕ → ℕ → StripFault
+strip_fault = fault_at
 
 -- the same in the layer of the seams
-abbrev pub seam_fault : ℕ → ℕ → ℕ → SeamFault
-seam_fault n s p = record { number = n; strip = s; place = p }
+abbrev pub seam_fault : SeamQuestion → ℕ → ℕ → SeamFault
+seam_fault = fault_at
 
 -- a fault of the file, as the reader tells it
 abbrev pub of_file : FileFault → Fault
-of_file f = record { layer = File; number = f.number; strip = f.strip; place = f.place }
+of_file = told_fault File file_number
 
 -- a fault of a strip, as the reader tells it
 abbrev pub of_strip : StripFault → Fault
-of_strip f = record { layer = Strip; number = f.number; strip = f.strip; place = f.place }
+of_strip = told_fault Strip strip_number
 
 -- a fault of the seams, as the reader tells it
 abbrev pub of_seam : SeamFault → Fault
-of_seam f = record { layer = Seam; number = f.number; strip = f.strip; place = f.place }
+of_seam = told_fault Seam seam_number
 
--- two bytes, and a count of strips in range
+-- 1: two bytes, and a count of strips in range
 abbrev pub q1 : List ℕ → Option FileFault
-q1 b = at (λ _. file_fault 1 0 0) (once (count_good b))
+q1 b = at (λ _. file_fault Count 0 0) (once (count_good b))
 
--- the sizes are all there
+-- 2: the sizes are all there
 abbrev pub q2 : List ℕ → Option FileFault
-q2 b = at (λ _. file_fault 2 0 0) (once (sizes_there b))
+q2 b = at (λ _. file_fault SizesThere 0 0) (once (sizes_there b))
 
--- sizes within the limits, strip by strip
+-- 3: sizes within the limits, strip by strip
 abbrev pub q3 : List ℕ → Option FileFault
-q3 b = at (λ j. file_fault 3 (j + 1) 0) (each (strips b) (size_good b))
+q3 b = at (λ j. file_fault SizesFit (j + 1) 0) (each (strips b) (size_good b))
 
--- the right length
+-- 4: the right length
 abbrev pub q4 : List ℕ → Option FileFault
-q4 b = at (λ _. file_fault 4 0 0) (once (length_right b))
+q4 b = at (λ _. file_fault Length 0 0) (once (length_right b))
 
--- borders in range that rise, border by border
+-- 5: borders in range that rise, border by border
 abbrev pub q5 : List ℕ → Option FileFault
-q5 b = at (λ k. file_fault 5 0 k) (each (strips b - 1) (border_good b))
+q5 b = at (λ k. file_fault Borders 0 k) (each (strips b - 1) (border_good b))
 
 -- the first of the questions 1 to 5 that is answered no
 unfoldable pub file_verdict : List ℕ → Option FileFault
 file_verdict b = first_of (q1 b ∷ (q2 b ∷ (q3 b ∷ (q4 b ∷ (q5 b ∷ [])))))
 
--- names in range, of a strip s, which has the number j in faults
+-- 6: names in range, of a strip s, which has the number j in faults
 abbrev pub q6 : of.Strip → ℕ → Option StripFault
-q6 s j = at (strip_fault 6 j) (each s.slots (name_good max_edge s))
+q6 s j = at (strip_fault Names j) (each s.slots (name_good max_edge s))
 
--- each name once, with its negation
+-- 7: each name once, with its negation
 abbrev pub q7 : of.Strip → ℕ → Option StripFault
-q7 s j = at (strip_fault 7 j) (each s.slots (paired s))
+q7 s j = at (strip_fault Pairs j) (each s.slots (paired s))
 
--- each follower a slot or none
+-- 8: each follower a slot or none
 abbrev pub q8 : of.Strip → ℕ → Option StripFault
-q8 s j = at (strip_fault 8 j) (each s.slots (follower_good s))
+q8 s j = at (strip_fault Followers j) (each s.slots (follower_good s))
 
--- each home slot followed once, each external slot never
+-- 9: each home slot followed once, each external slot never
 abbrev pub q9 : of.Strip → ℕ → Option StripFault
-q9 s j = at (strip_fault 9 j) (each s.slots (followed_right s))
+q9 s j = at (strip_fault Followed j) (each s.slots (followed_right s))
 
--- as many rounds as vertices
+-- 10: as many rounds as vertices
 abbrev pub q10 : of.Strip → ℕ → Option StripFault
-q10 s j = at (λ _. strip_fault 10 j 0) (once (of.rounds s == s.vertices))
+q10 s j = at (λ _. strip_fault Rounds j 0) (once (of.rounds s == s.vertices))
 
--- points in range and in the strip
+-- 11: points in range and in the strip
 abbrev pub q11 : Option ℤ → Option ℤ → of.Strip → ℕ → Option StripFault
-q11 w e s j = at (strip_fault 11 j) (each s.vertices (point_good w e s))
+q11 w e s j = at (strip_fault Points j) (each s.vertices (point_good w e s))
 
--- points that differ
+-- 12: points that differ
 abbrev pub q12 : of.Strip → ℕ → Option StripFault
-q12 s j = at (strip_fault 12 j) (each s.vertices (point_new s))
+q12 s j = at (strip_fault NewPoints j) (each s.vertices (point_new s))
 
 -- the first of the questions 6 to 12 of the strip that is answered no
 unfoldable pub strip_verdict : Option ℤ → Option ℤ → of.Strip → ℕ → Option StripFault
@@ -99,24 +115,24 @@ unfoldable pub strips_verdict : List ℕ → Option StripFault
 strips_verdict b = first_from (λ j. strip_verdict (western b j) (eastern b j) (strip b j) (j + 1)) 0 (strips b)
 
 -- one question of the seams, over all strips
-abbrev pub over_strips : ℕ → List ℕ → (ℕ → ℕ → Bool) → Option SeamFault
+abbrev pub over_strips : SeamQuestion → List ℕ → (ℕ → ℕ → Bool) → Option SeamFault
 over_strips q b good = first_from (λ j. at (seam_fault q (j + 1)) (each (strip b j).slots (good j))) 0 (strips b)
 
--- external names stand in the neighbour strip too
+-- 13: external names stand in the neighbour strip too
 unfoldable pub q13 : List ℕ → Option SeamFault
-q13 b = over_strips 13 b (runs_on (strips b) (strip b))
+q13 b = over_strips RunsOn b (runs_on (strips b) (strip b))
 
--- home names do not
+-- 14: home names do not
 unfoldable pub q14 : List ℕ → Option SeamFault
-q14 b = over_strips 14 b (starts_here (strips b) (strip b))
+q14 b = over_strips StartsHere b (starts_here (strips b) (strip b))
 
--- each name has one home slot at most
+-- 15: each name has one home slot at most
 unfoldable pub q15 : List ℕ → Option SeamFault
-q15 b = over_strips 15 b (home_new (strip b))
+q15 b = over_strips Homes b (home_new (strip b))
 
--- +e lies west of -e where both are home in one strip
+-- 16: +e lies west of -e where both are home in one strip
 unfoldable pub q16 : List ℕ → Option SeamFault
-q16 b = over_strips 16 b (λ j. west_first (strip b j))
+q16 b = over_strips WestFirst b (λ j. west_first (strip b j))
 
 -- the first of the questions 13 to 16 that is answered no
 unfoldable pub seam_verdict : List ℕ → Option SeamFault
@@ -130,7 +146,7 @@ shape_verdict b = first_of (at of_file (file_verdict b) ∷ (at of_strip (strips
 abbrev pub told_lines : List ℕ → Linework
 told_lines b = lines_of (strips b) (strip b)
 
--- the line work is flat
+-- 17: the line work is flat
 abbrev pub q17 : List ℕ → Option Fault
 q17 b = at (λ _. record { layer = Flat; number = 17; strip = 0; place = 0 }) (once (flat max_edge (told_lines b).turn))
 

@@ -1,42 +1,16 @@
 // A fault of a lower layer, as the reader's.
 ghost use Rattle.std.specs.Prelude.{◌≡◌};
-ghost use Rattle.file.specs.Verdict.{of_file, of_strip, of_seam};
+ghost use Rattle.file.specs.Faults.{told_fault};
 
-use crate::fault::{Fault, FileFault, Layer, SeamFault, StripFault};
+use crate::fault::{Fault, Question, QuestionFault};
 
-impl From<FileFault> for Fault {
-    ghost from_gives = { λ f r. r ≡ of_file f };
+impl<Q: Question> From<QuestionFault<Q>> for Fault {
+    ghost from_gives = { λ f r. r ≡ told_fault Q.LAYER Q.number f };
 
-    fn from(f: FileFault) -> Fault {
+    fn from(f: QuestionFault<Q>) -> Fault {
         Fault {
-            layer: Layer::File,
-            number: f.number,
-            strip: f.strip,
-            place: f.place,
-        }
-    }
-}
-
-impl From<StripFault> for Fault {
-    ghost from_gives = { λ f r. r ≡ of_strip f };
-
-    fn from(f: StripFault) -> Fault {
-        Fault {
-            layer: Layer::Strip,
-            number: f.number,
-            strip: f.strip,
-            place: f.place,
-        }
-    }
-}
-
-impl From<SeamFault> for Fault {
-    ghost from_gives = { λ f r. r ≡ of_seam f };
-
-    fn from(f: SeamFault) -> Fault {
-        Fault {
-            layer: Layer::Seam,
-            number: f.number,
+            layer: Q::LAYER,
+            number: f.question.number(),
             strip: f.strip,
             place: f.place,
         }

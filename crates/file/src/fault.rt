@@ -1,4 +1,6 @@
-// What a question that is answered no tells: its layer, its number, the strip and the place. Strips count from 1; 0 is no strip.
+// What a question that is answered no tells: which question it is, the strip and the place. Strips count from 1; 0 is no strip.
+ghost use Rattle.std.specs.Prelude.{◌≡◌, ℕ};
+ghost use Rattle.file.specs.declared.fault.Layer.{Layer};
 
 // In which layer a question is asked.
 #[derive(Clone, Copy, PartialEq, Eq, Debug, Drop)]
@@ -24,26 +26,38 @@ pub struct Fault {
     pub place: u16,
 }
 
-// A fault of the whole file.
+// The questions of one layer, which readers know by their numbers.
+pub trait Question: Copy {
+    ghost LAYER: { Layer };
+
+    ghost number: { Self → ℕ };
+
+    const LAYER: Layer;
+
+    // The number of the question.
+    fn number(self) -> u8
+        ensures { result ≡ number self };
+}
+
+// A question of one layer that is answered no.
 #[derive(Clone, Copy, PartialEq, Eq, Debug, Drop)]
-pub struct FileFault {
-    pub number: u8,
+pub struct QuestionFault<Q> {
+    pub question: Q,
     pub strip: u16,
     pub place: u16,
 }
 
-// A fault of a strip.
-#[derive(Clone, Copy, PartialEq, Eq, Debug, Drop)]
-pub struct StripFault {
-    pub number: u8,
-    pub strip: u16,
-    pub place: u16,
-}
+impl<Q> QuestionFault<Q> {
+    ghost use Rattle.file.specs.Faults.{fault_at};
 
-// A fault of the seams.
-#[derive(Clone, Copy, PartialEq, Eq, Debug, Drop)]
-pub struct SeamFault {
-    pub number: u8,
-    pub strip: u16,
-    pub place: u16,
+    // The fault of a question at a strip and a place.
+    pub fn new(question: Q, strip: u16, place: u16) -> QuestionFault<Q>
+        ensures { result ≡ fault_at question strip place }
+    {
+        QuestionFault {
+            question,
+            strip,
+            place,
+        }
+    }
 }

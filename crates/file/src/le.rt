@@ -2,7 +2,7 @@
 ghost use Rattle.std.specs.Prelude.{◌≡◌, ◌+◌, ◌≤◌, length};
 ghost use Rattle.file.specs.Bytes.{u16_at, i16_at, i32_at};
 
-// The two bytes from a place on.
+// The two bytes from a place on. Byte by byte, and not by `first_chunk`: the place is known to lie inside, so that there is no `None` to tell of.
 pub fn read_u16(bytes: &[u8], at: usize) -> u16
     requires { at + 2 ≤ length bytes.now }
     ensures { result ≡ u16_at bytes.now at }

@@ -20,9 +20,11 @@ fn ask(bytes: &[u8], marks: &mut [u8], line: &mut [i16]) -> Result<(), Fault>
     requires { (length marks.old ≡ marks_for max_edge) × (length line.old ≡ line_for max_edge) }
     ensures { result ≡ answered (shape_verdict bytes.now) tt }
 {
-    let count = ask_file(bytes)?;
-    ask_strips(bytes, count, marks)?;
-    ask_seams(bytes, count, marks, line)?;
+    let marks = marks.as_mut_array::<MARK_BYTES>().unwrap();
+    let line = line.as_mut_array::<LINE_NAMES>().unwrap();
+    let file = ask_file(bytes)?;
+    let judged = ask_strips(file, marks)?;
+    ask_seams(judged, marks, line)?;
     Ok(())
 }
 

@@ -6,22 +6,23 @@ ghost use Rattle.file.specs.Judged.{Judged};
 ghost use Rattle.file.specs.Layout.{strip};
 ghost use Rattle.file.specs.Shapes.{Shaped};
 ghost use Rattle.file.specs.Verdict.{told_lines};
-ghost use Rattle.file.specs.Views.{told, Whole};
+ghost use Rattle.file.specs.Views.{told};
 ghost use Rattle.seam_questions.specs.Vertices.{Sound as SoundStrip, Numbered};
 ghost use Rattle.told.specs.Tells.{borders_in, TellsStrip, Tells};
 ghost use Rattle.reading.specs.Entries.{absent, lines_by};
 ghost use Rattle.reading.specs.Entering.{Put, Entered};
 
 use crate::entry::Entry;
-use file::parts::lend_strip;
+use file::parts::File;
 use file::view::Strip;
 use seam_questions::vertices::{line_in, number_vertices, vertex_at};
 use strip_questions::place::place_in;
+use turning::limits::LINE_NAMES;
 
 // What slot i tells, if it is home: the entry of the name that follows. The line has the vertices of the strip.
-fn enter_slot(s: Strip<'_>, i: u16, line: &[i16], entries: &mut [Entry])
-    requires slot { (Whole s) × ((SoundStrip (told s)) × (i < s.slots)) }
-    requires line { (length line.now ≡ line_for max_edge) × (Numbered (told s) line.now) }
+fn enter_slot(s: Strip<'_>, i: u16, line: &[i16; LINE_NAMES], entries: &mut [Entry])
+    requires slot { (SoundStrip (told s)) × (i < s.slots) }
+    requires line { Numbered (told s) line.now }
     requires long { length entries.old ≡ marks_for max_edge }
     ensures { Put (told s.entry) i entries.old entries.new }
 {
@@ -45,11 +46,11 @@ fn enter_slot(s: Strip<'_>, i: u16, line: &[i16], entries: &mut [Entry])
 }
 
 // What strip j tells.
-fn enter_strip(bytes: &[u8], j: u16, s: Strip<'_>, line: &[i16], entries: &mut [Entry])
-    requires strip { (Whole s) × ((SoundStrip (told s)) × (told s ≡ strip bytes.now j)) }
+fn enter_strip(bytes: &[u8], j: u16, s: Strip<'_>, line: &[i16; LINE_NAMES], entries: &mut [Entry])
+    requires strip { (SoundStrip (told s)) × (told s ≡ strip bytes.now j) }
     requires tells { TellsStrip (borders_in bytes.now) (told_lines bytes.now) (suc j) (strip bytes.now j) }
     requires sound { Sound max_edge (told_lines bytes.now) }
-    requires line { (length line.now ≡ line_for max_edge) × (Numbered (told s) line.now) }
+    requires line { Numbered (told s) line.now }
     requires entered { (length entries.old ≡ marks_for max_edge) × (Entered bytes.now j 0 entries.old) }
     ensures { Entered bytes.now (j + 1) 0 entries.new }
 {
@@ -59,16 +60,16 @@ fn enter_strip(bytes: &[u8], j: u16, s: Strip<'_>, line: &[i16], entries: &mut [
 }
 
 // What all strips tell. The line is used up.
-fn enter_strips(bytes: &[u8], count: u16, line: &mut [i16], entries: &mut [Entry])
+fn enter_strips(bytes: &[u8], count: u16, line: &mut [i16; LINE_NAMES], entries: &mut [Entry])
     requires strips { (Shaped bytes.now count) × (Judged bytes.now count) }
     requires tells { Tells (borders_in bytes.now) (told_lines bytes.now) bytes.now }
     requires sound { Sound max_edge (told_lines bytes.now) }
-    requires line { length line.old ≡ line_for max_edge }
     requires entered { (length entries.old ≡ marks_for max_edge) × (Entered bytes.now 0 0 entries.old) }
     ensures { Entered bytes.now count 0 entries.new }
 {
+    let file = File { bytes, count };
     for j in 0..count {
-        let s = lend_strip(bytes, count, j);
+        let s = file.strip(j);
         number_vertices(s, line);
         enter_strip(bytes, j, s, line, entries);
     }
@@ -83,5 +84,6 @@ pub(crate) fn enter(bytes: &[u8], count: u16, line: &mut [i16], entries: &mut [E
     requires empty { (length entries.old ≡ marks_for max_edge) × (entries.old ≡ replicate (length entries.old) absent) }
     ensures { lines_by entries.new ≡ told_lines bytes.now }
 {
+    let line = line.as_mut_array::<LINE_NAMES>().unwrap();
     enter_strips(bytes, count, line, entries);
 }

@@ -4,6 +4,7 @@ use lib.Signed.{lt_z}
 use Rattle.std.proofs.lemmas.Bool.{cases_Bool, cases_eq, cases_order, eqb-true, eqb-false}
 use Rattle.std.proofs.lemmas.List.{get_or-set_same, get_or-set_other, get_or-replicate}
 use Rattle.std.proofs.lemmas.Bool.Decides.{nat_tests}
+use Rattle.std.specs.Option.{is_some}
 use Rattle.flat.specs.Orbits.{iterate, indicator}
 use Rattle.flat.specs.Whole.{equal}
 use Rattle.turning.specs.Limits.{max_edge, line_for}
@@ -105,6 +106,9 @@ indicator_same true false e = absurd (omega arith)
 indicator_same false true e = absurd (omega arith)
 indicator_same false false e = refl
 
+turned_round : (a b : Bool) → a ≡ not b → b ≡ not a
+turned_round a b e = grind arith
+
 module _ (s : Strip) (t : Turned s) (i : ℕ) (h : i < s.slots) where
   pub round_numbered : opens s i ≡ true → (v : ℕ) → v ≡ count_below (opens s) i → (k : ℕ) (o o' : Option ℕ) → k < s.slots → o ≡ vertex_below s i k
       → o' ≡ cond (met s i s.slots k) (Some v) o → o' ≡ vertex_below s (i + 1) k
@@ -141,6 +145,10 @@ module _ (s : Strip) (t : Turned s) (i : ℕ) (h : i < s.slots) where
       and_true : (b : Bool) → b ≡ (b && true)
       and_true true = refl
       and_true false = refl
+
+  pub opens_asked : (o : Option ℕ) → o ≡ vertex_below s i i → (b : Bool) → home s i ≡ true → is_some o ≡ not b → b ≡ opens s i
+  opens_asked (Some v) e b h n = turned_round true b n ∙ opens_not v e
+  opens_asked None e b h n = turned_round false b n ∙ sym h ∙ opens_home e
 
 -- nothing is numbered yet
 pub none_numbered : (s : Strip) → Sound s → (l : List ℤ) → length l ≡ line_for max_edge → l ≡ replicate (length l) (pos 0) → NumberedBelow s 0 l

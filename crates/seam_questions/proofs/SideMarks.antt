@@ -1,5 +1,6 @@
 -- Marks by side. Assumes nothing.
-use Rattle.std.proofs.Common.{◌≡◌, ℕ, zero, suc, ◌+◌, ◌-◌, ◌<◌, ◌≤◌, Bool, true, false, cond, not, ◌&&◌, ◌||◌, eqb, ltb, List, length, get_or, set, ℤ, pos, negsuc, sym, refl, ap, ◌∙◌, subst, add-one, arith}
+use Rattle.std.proofs.Common.{◌≡◌, ℕ, zero, suc, ◌+◌, ◌<◌, Bool, true, false, cond, not, ◌&&◌, ◌||◌, eqb, ltb, List, length, get_or, set, ℤ, pos, negsuc, Some, None, sym, refl, ap, ◌∙◌, subst, add-one, arith}
+use mathlib.Core.Bool.{beq}
 use Rattle.flat.specs.Whole.{equal}
 use Rattle.turning.specs.Limits.{max_edge, marks_for}
 use Rattle.file.specs.Strips.{Strip, home, names}
@@ -7,9 +8,9 @@ use Rattle.file.specs.Questions.{named, positive}
 use Rattle.file.proofs.Places.{any_more}
 use Rattle.search.specs.Marks.{place as mark_at}
 use Rattle.strip_questions.proofs.Marks.{mark_set, equal_true}
-use Rattle.seam_questions.specs.Sides.{on_side, side_names, west_names, east_names}
+use Rattle.seam_questions.specs.Sides.{on_side, side_names, west_of, east_of, neighbour_names, stands_right}
 use Rattle.flat.specs.Orbits.{indicator}
-use Rattle.file.specs.Questions.{beyond, name_good, runs_on, starts_here}
+use Rattle.file.specs.Questions.{beyond, name_good}
 use Rattle.file.specs.Layout.{strip}
 use Rattle.file.specs.Judged.{Judged}
 use Rattle.std.proofs.lemmas.Bool.Decides.{nat_tests}
@@ -39,28 +40,13 @@ module _ (side : Bool) (s : Strip) (i : ℕ) where
       ∙ left_out (equal (s.name i) z) (on_side side z) (names s i z) (old z) (λ e. ap (on_side side) (sym (equal_true (s.name i) z e)) ∙ off)
       ∙ ap (λ b. cond (on_side side z && b) 1 (old z)) (sym (any_more (λ k. equal (s.name k) z) i))
 
-no_names_west : (strip : ℕ → Strip) (j : ℕ) (z : ℤ) → j ≡ 0 → west_names strip j z ≡ false
-no_names_west strip zero z e = refl
-no_names_west strip (suc j) z e = absurd (omega arith)
-
-names_west : (strip : ℕ → Strip) (j : ℕ) (z : ℤ) → 0 < j → west_names strip j z ≡ side_names true (strip (j - 1)) (strip (j - 1)).slots z
-names_west strip zero z e = absurd (omega arith)
-names_west strip (suc j) z e = let q : j ≡ suc j - 1 = omega arith in ap (λ k. side_names true (strip k) (strip k).slots z) q
-
-pub west_none : (strip : ℕ → Strip) (j : ℕ) (z : ℤ) (o : ℕ) → j ≡ 0 → o ≡ cond (west_names strip j z) 1 o
-west_none strip j z o e = sym (ap (λ b. cond b 1 o) (no_names_west strip j z e))
-
--- the marks of the strip to the west, as it was lent
-pub west_some : (strip : ℕ → Strip) (j : ℕ) (s : Strip) (z : ℤ) (o : ℕ) → 0 < j → s ≡ strip (j - 1) → cond (side_names true s s.slots z) 1 o ≡ cond (west_names strip j z) 1 o
-west_some strip j s z o h e = ap (λ y. cond (side_names true y y.slots z) 1 o) e ∙ sym (ap (λ b. cond b 1 o) (names_west strip j z h))
-
-pub east_none : (n : ℕ) (strip : ℕ → Strip) (j : ℕ) (z : ℤ) (o : ℕ) → n ≤ j + 1 → o ≡ cond (east_names n strip j z) 1 o
-east_none n strip j z o h = let e : ltb (j + 1) n ≡ false = grind (arith, nat_tests) in sym (ap (λ b. cond (b && side_names false (strip (j + 1)) (strip (j + 1)).slots z) 1 o) e)
-
-pub east_some : (n : ℕ) (strip : ℕ → Strip) (j : ℕ) (s : Strip) (z : ℤ) (o : ℕ) → j + 1 < n → s ≡ strip (j + 1) → cond (side_names false s s.slots z) 1 o ≡ cond (east_names n strip j z) 1 o
-east_some n strip j s z o h e =
-    let t : ltb (j + 1) n ≡ true = grind (arith, nat_tests) in
-    ap (λ y. cond (side_names false y y.slots z) 1 o) e ∙ sym (ap (λ b. cond (b && side_names false (strip (j + 1)) (strip (j + 1)).slots z) 1 o) t)
+-- the names of the neighbour to the east, by one test
+east_names : (n : ℕ) (at : ℕ → Strip) (j : ℕ) (z : ℤ) → neighbour_names false at (east_of n j) z ≡ (ltb (j + 1) n && side_names false (at (j + 1)) (at (j + 1)).slots z)
+east_names n at j z = by_test (ltb (j + 1) n)
+  where
+    by_test : (b : Bool) → neighbour_names false at (cond b (Some (j + 1)) None) z ≡ (b && side_names false (at (j + 1)) (at (j + 1)).slots z)
+    by_test true = refl
+    by_test false = refl
 
 off : (b p x : Bool) (w : ℕ) → p ≡ true → cond (b && (not p && x)) 1 w ≡ w
 off true p x w e = ap (λ q. cond (not q && x) 1 w) e
@@ -78,16 +64,21 @@ east false x = refl
 plus : (e : ℕ) → named max_edge (pos e) ≡ true → positive (pos e) ≡ true
 plus e h = grind (arith, nat_tests)
 
--- a name stands beyond just where it stands on its side
-pub sides_are : (n : ℕ) (at : ℕ → Strip) (j : ℕ) (z : ℤ) → named max_edge z ≡ true → cond (east_names n at j z) 1 (cond (west_names at j z) 1 0) ≡ indicator (beyond n at j z)
-sides_are n at zero (pos e) h = off (ltb 1 n) (positive (pos e)) (names (at 1) (at 1).slots (pos e)) 0 (plus e h)
-sides_are n at (suc j) (pos e) h =
+sides_by : (n : ℕ) (at : ℕ → Strip) (j : ℕ) (z : ℤ) → named max_edge z ≡ true
+    → cond (ltb (j + 1) n && side_names false (at (j + 1)) (at (j + 1)).slots z) 1 (cond (neighbour_names true at (west_of j) z) 1 0) ≡ indicator (beyond n at j z)
+sides_by n at zero (pos e) h = off (ltb 1 n) (positive (pos e)) (names (at 1) (at 1).slots (pos e)) 0 (plus e h)
+sides_by n at (suc j) (pos e) h =
     off (ltb (suc j + 1) n) (positive (pos e)) (names (at (suc j + 1)) (at (suc j + 1)).slots (pos e)) (cond (positive (pos e) && names (at j) (at j).slots (pos e)) 1 0) (plus e h)
     ∙ on (positive (pos e)) (names (at j) (at j).slots (pos e)) (plus e h)
-sides_are n at zero (negsuc e) h = east (ltb 1 n) (names (at 1) (at 1).slots (negsuc e))
-sides_are n at (suc j) (negsuc e) h =
+sides_by n at zero (negsuc e) h = east (ltb 1 n) (names (at 1) (at 1).slots (negsuc e))
+sides_by n at (suc j) (negsuc e) h =
     east (ltb (suc j + 1) n) (names (at (suc j + 1)) (at (suc j + 1)).slots (negsuc e))
     ∙ ap (λ k. indicator (ltb k n && names (at k) (at k).slots (negsuc e))) (add-one (suc j))
+
+-- a name stands beyond just where it stands on its side
+pub sides_are : (n : ℕ) (at : ℕ → Strip) (j : ℕ) (z : ℤ) → named max_edge z ≡ true
+    → cond (neighbour_names false at (east_of n j) z) 1 (cond (neighbour_names true at (west_of j) z) 1 0) ≡ indicator (beyond n at j z)
+sides_are n at j z h = ap (λ b. cond b 1 (cond (neighbour_names true at (west_of j) z) 1 0)) (east_names n at j z) ∙ sides_by n at j z h
 
 -- the names of a strip that was lent are good
 pub lent_good : (b : List ℕ) (n j : ℕ) (s : Strip) → Judged b n → j < n → s ≡ strip b j → (k : ℕ) → k < s.slots → name_good max_edge s k ≡ true
@@ -97,9 +88,33 @@ pub told_mark : (m : ℕ) (b : Bool) → m ≡ indicator b → not (eqb m 0) ≡
 told_mark m true e = ap (λ n. not (eqb n 0)) e
 told_mark m false e = ap (λ n. not (eqb n 0)) e
 
--- the answers at a slot of a strip that was lent
-pub runs_is : (n : ℕ) (at : ℕ → Strip) (j i : ℕ) (s : Strip) → s ≡ at j → (home s i || beyond n at j (s.name i)) ≡ runs_on n at j i
-runs_is n at j i s e = ap (λ y. home y i || beyond n at j (y.name i)) e
+-- ---- the answer at a slot: where the name is of the other kind, and where it is asked
+apart : (b : Bool) → b ≡ true → b ≡ false → ⊥
+apart b t f = let y : ◌≡◌ {A = ℕ} 0 1 = cc in omega arith
 
-pub starts_is : (n : ℕ) (at : ℕ → Strip) (j i : ℕ) (s : Strip) → s ≡ at j → not (home s i && beyond n at j (s.name i)) ≡ starts_here n at j i
-starts_is n at j i s e = ap (λ y. not (home y i && beyond n at j (y.name i))) e
+or_first : (h a b : Bool) → h ≡ a → not (beq h false) ≡ true → not (beq h false) ≡ (a || b)
+or_first true a b e t = ap (λ x. x || b) e
+or_first false a b e t = absurd (apart false t refl)
+
+or_second : (h a x b : Bool) → h ≡ a → x ≡ b → not (beq h false) ≡ false → not (beq x false) ≡ (a || b)
+or_second true a x b e f t = absurd (apart true refl t)
+or_second false a true b e f t = f ∙ ap (λ y. y || b) e
+or_second false a false b e f t = f ∙ ap (λ y. y || b) e
+
+and_first : (h a b : Bool) → h ≡ a → not (beq h true) ≡ true → not (beq h true) ≡ not (a && b)
+and_first true a b e t = absurd (apart false t refl)
+and_first false a b e t = ap (λ y. not (y && b)) e
+
+and_second : (h a x b : Bool) → h ≡ a → x ≡ b → not (beq h true) ≡ false → not (beq x true) ≡ not (a && b)
+and_second true a true b e f t = ap not f ∙ ap (λ y. not (y && b)) e
+and_second true a false b e f t = ap not f ∙ ap (λ y. not (y && b)) e
+and_second false a x b e f t = absurd (apart true refl t)
+
+module _ (n : ℕ) (at : ℕ → Strip) (j i : ℕ) (h : Bool) (e : h ≡ home (at j) i) where
+  pub other_kind : (homes : Bool) → not (beq h homes) ≡ true → not (beq h homes) ≡ stands_right homes n at j i
+  other_kind false t = or_first h (home (at j) i) (beyond n at j ((at j).name i)) e t
+  other_kind true t = and_first h (home (at j) i) (beyond n at j ((at j).name i)) e t
+
+  pub asked_kind : (homes x : Bool) → x ≡ beyond n at j ((at j).name i) → not (beq h homes) ≡ false → not (beq x homes) ≡ stands_right homes n at j i
+  asked_kind false x f t = or_second h (home (at j) i) x (beyond n at j ((at j).name i)) e f t
+  asked_kind true x f t = and_second h (home (at j) i) x (beyond n at j ((at j).name i)) e f t

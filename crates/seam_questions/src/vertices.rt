@@ -3,27 +3,27 @@ ghost use Rattle.std.specs.Prelude.{◌≡◌, ℕ, ◌+◌, ◌<◌, ◌≤◌,
 ghost use Rattle.turning.specs.Limits.{max_edge, slots as max_slots, line_for};
 ghost use Rattle.file.specs.Questions.{named};
 ghost use Rattle.file.specs.Strips.{home, opens, met};
-ghost use Rattle.file.specs.Views.{told, Whole};
+ghost use Rattle.file.specs.Views.{told};
 ghost use Rattle.seam_questions.specs.Vertices.{Sound, line_at, slot_at, vertex_at, NumberedBelow, Numbered};
 
 use file::view::Strip;
-use turning::limits::MAX_NAME;
+use strip_questions::place::place_of;
+use turning::limits::LINE_NAMES;
 
+// The line has no place for 0: the names above it move up by one.
 fn line_place(name: i16) -> usize
     requires { named max_edge name ≡ true }
     ensures value { result ≡ line_at max_edge name }
     ensures within { result < line_for max_edge }
 {
-    if 1 <= name {
-        (name + (MAX_NAME - 1)) as usize
-    } else {
-        (name + MAX_NAME) as usize
-    }
+    let place = place_of(name);
+    if 1 <= name { place - 1 } else { place }
 }
 
 // The place of the name in slot i.
 pub fn line_in(s: Strip<'_>, i: u16) -> usize
-    requires { (Whole s) × ((i < s.slots) × (Sound (told s))) }
+    requires slot { i < s.slots }
+    requires sound { Sound (told s) }
     ensures value { result ≡ slot_at (told s.entry) i }
     ensures within { result < line_for max_edge }
 {
@@ -32,7 +32,8 @@ pub fn line_in(s: Strip<'_>, i: u16) -> usize
 
 // The place of its negation.
 pub fn line_against(s: Strip<'_>, i: u16) -> usize
-    requires { (Whole s) × ((i < s.slots) × (Sound (told s))) }
+    requires slot { i < s.slots }
+    requires sound { Sound (told s) }
     ensures value { result ≡ line_at max_edge (neg_ℤ ((told s.entry).name i)) }
     ensures within { result < line_for max_edge }
 {
@@ -40,7 +41,7 @@ pub fn line_against(s: Strip<'_>, i: u16) -> usize
 }
 
 // The vertex at a place of the line.
-pub fn vertex_at(line: &[i16], place: usize) -> Option<u16>
+pub fn vertex_at(line: &[i16; LINE_NAMES], place: usize) -> Option<u16>
     requires { place < length line.now }
     ensures { result ≡ vertex_at line.now place }
 {
@@ -52,16 +53,20 @@ pub fn vertex_at(line: &[i16], place: usize) -> Option<u16>
     }
 }
 
-fn put_vertex(line: &mut [i16], place: usize, v: u16)
-    requires { (place < length line.old) × (v < max_slots) }
+fn put_vertex(line: &mut [i16; LINE_NAMES], place: usize, v: u16)
+    requires place { place < length line.old }
+    requires few { v < max_slots }
     ensures { line.new ≡ slice_set line.old place (pos (v + 1)) }
 {
     line[place] = (v + 1) as i16;
 }
 
-fn number_round(s: Strip<'_>, i: u16, v: u16, line: &mut [i16])
-    requires whole { (Whole s) × ((Sound (told s)) × ((i < s.slots) × (home (told s) i ≡ true))) }
-    requires v_lt_max_slots { (v < max_slots) × (length line.old ≡ line_for max_edge) }
+// A walk by the strip itself: the slot that is numbered next is the follower of this one.
+fn number_round(s: Strip<'_>, i: u16, v: u16, line: &mut [i16; LINE_NAMES])
+    requires sound { Sound (told s) }
+    requires slot { i < s.slots }
+    requires home { home (told s) i ≡ true }
+    requires few { v < max_slots }
     ensures { (k : ℕ) → k < s.entry.slots → vertex_at line.new (slot_at (told s.entry) k) ≡ (if met (told s.entry) i s.entry.slots k then Some v else vertex_at line.old (slot_at (told s.entry) k)) }
 {
     let mut at = i;
@@ -74,19 +79,19 @@ fn number_round(s: Strip<'_>, i: u16, v: u16, line: &mut [i16])
     }
 }
 
-fn opens_round(s: Strip<'_>, i: u16, line: &[i16]) -> bool
-    requires { (Whole s) × ((Sound (told s)) × ((i < s.slots) × ((length line.now ≡ line_for max_edge) × (NumberedBelow (told s) i line.now)))) }
+fn opens_round(s: Strip<'_>, i: u16, line: &[i16; LINE_NAMES]) -> bool
+    requires sound { Sound (told s) }
+    requires slot { i < s.slots }
+    requires numbered { NumberedBelow (told s) i line.now }
     ensures { result ≡ opens (told s.entry) i }
 {
-    match vertex_at(line, line_in(s, i)) {
-        Some(_) => false,
-        None => s.is_home(i),
-    }
+    s.is_home(i) && vertex_at(line, line_in(s, i)).is_none()
 }
 
-fn number_rounds(s: Strip<'_>, line: &mut [i16])
-    requires whole { (Whole s) × ((Sound (told s)) × (s.slots ≤ max_slots)) }
-    requires line_len { (length line.old ≡ line_for max_edge) × (line.old ≡ replicate (length line.old) (pos 0)) }
+fn number_rounds(s: Strip<'_>, line: &mut [i16; LINE_NAMES])
+    requires sound { Sound (told s) }
+    requires few { s.slots ≤ max_slots }
+    requires clean { line.old ≡ replicate (length line.old) (pos 0) }
     ensures { Numbered (told s.entry) line.new }
 {
     let mut count = 0;
@@ -99,8 +104,9 @@ fn number_rounds(s: Strip<'_>, line: &mut [i16])
 }
 
 // Writes the vertices of a strip into the line.
-pub fn number_vertices(s: Strip<'_>, line: &mut [i16])
-    requires { (Whole s) × ((Sound (told s)) × ((s.slots ≤ max_slots) × (length line.old ≡ line_for max_edge))) }
+pub fn number_vertices(s: Strip<'_>, line: &mut [i16; LINE_NAMES])
+    requires sound { Sound (told s) }
+    requires few { s.slots ≤ max_slots }
     ensures { Numbered (told s.entry) line.new }
 {
     line.fill(0);

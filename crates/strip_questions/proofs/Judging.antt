@@ -1,9 +1,8 @@
 -- The questions of a strip in order: where the verdict stops. Assumes nothing.
 use Rattle.std.proofs.Common.{◌≡◌, ℕ, ◌+◌, List, [], ◌∷◌, ℤ, Some, None, Option, sym, ap, ◌∙◌}
-use Rattle.file.specs.declared.fault.StripFault.{StripFault}
 use Rattle.file.specs.Strips.{Strip}
 use Rattle.file.specs.Layout.{strip, western, eastern}
-use Rattle.file.specs.Verdict.{q6, q7, q8, q9, q10, q11, q12, strip_verdict}
+use Rattle.file.specs.Verdict.{StripFault, q6, q7, q8, q9, q10, q11, q12, strip_verdict}
 use Rattle.file.proofs.Places.{skip, stop, last_one}
 
 module _ (w e : Option ℤ) (s : Strip) (j : ℕ) where

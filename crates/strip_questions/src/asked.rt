@@ -1,10 +1,10 @@
 // All questions of one strip, in order.
-ghost use Rattle.std.specs.Prelude.{◌≡◌, ◌≤◌, length};
-ghost use Rattle.turning.specs.Limits.{max_edge, slots as max_slots, marks_for};
+ghost use Rattle.std.specs.Prelude.{◌≡◌, ◌≤◌, IfOk};
+ghost use Rattle.std.specs.Result.{result_err};
+ghost use Rattle.turning.specs.Limits.{slots as max_slots};
 ghost use Rattle.file.specs.Places.{answered};
-ghost use Rattle.file.specs.Shapes.{Shaped};
 ghost use Rattle.file.specs.Verdict.{strip_verdict, strips_verdict};
-ghost use Rattle.file.specs.Views.{told, Whole};
+ghost use Rattle.file.specs.Views.{told};
 
 use crate::followed::slots_followed;
 use crate::names::names_good;
@@ -12,9 +12,10 @@ use crate::paired::names_paired;
 use crate::plain::{followers_good, points_good};
 use crate::points::points_differ;
 use crate::walks::rounds_right;
-use file::fault::StripFault;
-use file::parts::{eastern_border, lend_strip, western_border};
+use file::parts::{File, JudgedFile};
+use file::questions::StripFault;
 use file::view::Strip;
+use turning::limits::MARK_BYTES;
 
 // The first of the questions of a strip that is answered no. The strip has this number in faults, and lies between these borders.
 pub fn ask_strip(
@@ -22,9 +23,9 @@ pub fn ask_strip(
     number: u16,
     west: Option<i32>,
     east: Option<i32>,
-    marks: &mut [u8],
+    marks: &mut [u8; MARK_BYTES],
 ) -> Result<(), StripFault>
-    requires { (Whole s) × ((s.slots ≤ max_slots) × (length marks.old ≡ marks_for max_edge)) }
+    requires { s.slots ≤ max_slots }
     ensures { result ≡ answered (strip_verdict west east (told s.entry) number) tt }
 {
     names_good(s, number)?;
@@ -36,16 +37,18 @@ pub fn ask_strip(
     points_differ(s, number)
 }
 
-// The first fault of the strips of a file, all questions of one strip before the next.
-pub fn ask_strips(bytes: &[u8], count: u16, marks: &mut [u8]) -> Result<(), StripFault>
-    requires { (Shaped bytes.now count) × (length marks.old ≡ marks_for max_edge) }
-    ensures { result ≡ answered (strips_verdict bytes.now) tt }
+// The first fault of the strips of a file, all questions of one strip before the next; without one, the file is judged.
+pub fn ask_strips<'a>(
+    file: File<'a>,
+    marks: &mut [u8; MARK_BYTES],
+) -> Result<JudgedFile<'a>, StripFault>
+    ensures verdict { result_err result ≡ strips_verdict file.entry.bytes.now }
+    ensures file { IfOk result (λ j. j.file ≡ file.entry) }
 {
-    for j in 0..count {
-        let west = western_border(bytes, count, j);
-        let east = eastern_border(bytes, count, j);
-        let strip = lend_strip(bytes, count, j);
-        ask_strip(strip, j + 1, west, east, marks)?;
+    for j in 0..file.count {
+        let west = file.western_border(j);
+        let east = file.eastern_border(j);
+        ask_strip(file.strip(j), j + 1, west, east, marks)?;
     }
-    Ok(())
+    Ok(JudgedFile { file })
 }

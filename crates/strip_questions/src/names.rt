@@ -4,9 +4,10 @@ ghost use Rattle.turning.specs.Limits.{max_edge};
 ghost use Rattle.file.specs.Places.{answered};
 ghost use Rattle.file.specs.Questions.{named};
 ghost use Rattle.file.specs.Verdict.{q6};
-ghost use Rattle.file.specs.Views.{told, Whole};
+ghost use Rattle.file.specs.Views.{told};
 
-use file::fault::StripFault;
+use file::asking::ask_each;
+use file::questions::{StripFault, StripQuestion};
 use file::view::Strip;
 use turning::limits::MAX_NAME;
 
@@ -19,17 +20,9 @@ pub fn name_good(name: i16) -> bool
 
 // Question 6, of one strip.
 pub fn names_good(s: Strip<'_>, number: u16) -> Result<(), StripFault>
-    requires { Whole s }
     ensures { result ≡ answered (q6 (told s.entry) number) tt }
 {
-    for i in 0..s.slots {
-        if !name_good(s.name(i)) {
-            return Err(StripFault {
-                number: 6,
-                strip: number,
-                place: i,
-            });
-        }
-    }
-    Ok(())
+    ask_each(StripQuestion::Names, number, s.slots, |i| {
+        name_good(s.name(i))
+    })
 }

@@ -3,14 +3,15 @@ ghost use Rattle.std.specs.Prelude.{◌≡◌, ◌<◌};
 ghost use Rattle.file.specs.Places.{answered};
 ghost use Rattle.file.specs.Questions.{follower_good, not_west_of, west_of, lies_in, point_new};
 ghost use Rattle.file.specs.Verdict.{q8, q11, q12};
-ghost use Rattle.file.specs.Views.{told, Whole};
+ghost use Rattle.file.specs.Views.{told};
 
 use chart::point::Point;
-use file::fault::StripFault;
+use file::asking::{ask_each, first_no};
+use file::questions::{StripFault, StripQuestion};
 use file::view::{NONE, Strip};
 
 fn follower_good(s: Strip<'_>, i: u16) -> bool
-    requires { (Whole s) × (i < s.slots) }
+    requires { i < s.slots }
     ensures { result ≡ follower_good (told s.entry) i }
 {
     let follower = s.follower(i);
@@ -19,37 +20,23 @@ fn follower_good(s: Strip<'_>, i: u16) -> bool
 
 // Question 8, of one strip.
 pub fn followers_good(s: Strip<'_>, number: u16) -> Result<(), StripFault>
-    requires { Whole s }
     ensures { result ≡ answered (q8 (told s.entry) number) tt }
 {
-    for i in 0..s.slots {
-        if !follower_good(s, i) {
-            return Err(StripFault {
-                number: 8,
-                strip: number,
-                place: i,
-            });
-        }
-    }
-    Ok(())
+    ask_each(StripQuestion::Followers, number, s.slots, |i| {
+        follower_good(s, i)
+    })
 }
 
 fn is_not_west_of(border: Option<i32>, x: i32) -> bool
     ensures { result ≡ not_west_of border x }
 {
-    match border {
-        Some(a) => a <= x,
-        None => true,
-    }
+    border.is_none_or(|a| a <= x)
 }
 
 fn is_west_of(border: Option<i32>, x: i32) -> bool
     ensures { result ≡ west_of border x }
 {
-    match border {
-        Some(a) => x < a,
-        None => true,
-    }
+    border.is_none_or(|a| x < a)
 }
 
 fn point_good(west: Option<i32>, east: Option<i32>, p: Point) -> bool
@@ -65,47 +52,26 @@ pub fn points_good(
     west: Option<i32>,
     east: Option<i32>,
 ) -> Result<(), StripFault>
-    requires { Whole s }
     ensures { result ≡ answered (q11 west east (told s.entry) number) tt }
 {
-    for k in 0..s.vertices {
-        if !point_good(west, east, s.point(k)) {
-            return Err(StripFault {
-                number: 11,
-                strip: number,
-                place: k,
-            });
-        }
-    }
-    Ok(())
+    ask_each(StripQuestion::Points, number, s.vertices, |k| {
+        point_good(west, east, s.point(k))
+    })
 }
 
 fn point_new(s: Strip<'_>, k: u16) -> bool
-    requires { (Whole s) × (k < s.vertices) }
+    requires { k < s.vertices }
     ensures { result ≡ point_new (told s.entry) k }
 {
     let here = s.point(k);
-    for m in 0..k {
-        if s.point(m).is_same(here) {
-            return false;
-        }
-    }
-    true
+    first_no(k, |m| !s.point(m).is_same(here)).is_none()
 }
 
 // Question 12, of one strip.
 pub fn points_new(s: Strip<'_>, number: u16) -> Result<(), StripFault>
-    requires { Whole s }
     ensures { result ≡ answered (q12 (told s.entry) number) tt }
 {
-    for k in 0..s.vertices {
-        if !point_new(s, k) {
-            return Err(StripFault {
-                number: 12,
-                strip: number,
-                place: k,
-            });
-        }
-    }
-    Ok(())
+    ask_each(StripQuestion::NewPoints, number, s.vertices, |k| {
+        point_new(s, k)
+    })
 }

@@ -4,15 +4,16 @@ ghost use Rattle.turning.specs.Limits.{slots as max_slots};
 ghost use Rattle.file.specs.Places.{each, answered};
 ghost use Rattle.file.specs.Questions.{point_new};
 ghost use Rattle.file.specs.Verdict.{q12};
-ghost use Rattle.file.specs.Views.{told, Whole};
+ghost use Rattle.file.specs.Views.{told};
 ghost use Rattle.strip_questions.specs.Repeats.{together, lower, Listed, Lowest};
 
 use crate::plain;
-use file::fault::StripFault;
+use file::fault::QuestionFault;
+use file::questions::{StripFault, StripQuestion};
 use file::view::Strip;
 use turning::limits::SLOTS;
 
-// A vertex of a strip by its point and its place, and so ordered: equal points by their places.
+// A vertex of a strip by its point and its place, and so ordered: equal points by their places. Its coordinates stand apart, since a point has no order.
 #[derive(Clone, Copy, PartialEq, Eq, PartialOrd, Ord)]
 struct Vertex {
     x: i32,
@@ -38,15 +39,16 @@ impl Vertex {
 
 // Writes the vertices of the strip in the order of their places.
 fn list_vertices(s: Strip<'_>, vertices: &mut [Vertex])
-    requires { (Whole s) × (length vertices.old ≡ s.vertices) }
+    requires { length vertices.old ≡ s.vertices }
     ensures { Listed (told s.entry) vertices.new }
 {
-    for k in 0..s.vertices {
-        let point = s.point(k);
-        vertices[k as usize] = Vertex {
+    for (k, vertex) in vertices.iter_mut().enumerate() {
+        let place = k as u16;
+        let point = s.point(place);
+        *vertex = Vertex {
             x: point.x,
             y: point.y,
-            place: k,
+            place,
         };
     }
 }
@@ -62,6 +64,7 @@ fn lower_of(found: Option<u16>, place: u16) -> u16
 }
 
 // The lowest place of a vertex that has the point of its left neighbour.
+// By index: of windows(2) with filter, map and min, the goal `returns` stayed open, that the run of `min` tells `Lowest`.
 fn lowest_repeat(sorted: &[Vertex]) -> Option<u16>
     ensures { Lowest sorted.now (length sorted.now) result }
 {
@@ -76,7 +79,7 @@ fn lowest_repeat(sorted: &[Vertex]) -> Option<u16>
 
 // The first vertex whose point is that of an earlier one. The memory has a place for each vertex.
 fn first_repeat(s: Strip<'_>, vertices: &mut [Vertex]) -> Option<u16>
-    requires { (Whole s) × (length vertices.old ≡ s.vertices) }
+    requires { length vertices.old ≡ s.vertices }
     ensures { result ≡ each s.entry.vertices (point_new (told s.entry)) }
 {
     list_vertices(s, vertices);
@@ -86,23 +89,18 @@ fn first_repeat(s: Strip<'_>, vertices: &mut [Vertex]) -> Option<u16>
 
 // Question 12, of a strip that fits the memory.
 pub fn points_new(s: Strip<'_>, number: u16) -> Result<(), StripFault>
-    requires { (Whole s) × (s.vertices ≤ max_slots) }
+    requires { s.vertices ≤ max_slots }
     ensures { result ≡ answered (q12 (told s.entry) number) tt }
 {
     let mut memory = [BLANK; SLOTS];
     match first_repeat(s, &mut memory[..s.vertices as usize]) {
         None => Ok(()),
-        Some(place) => Err(StripFault {
-            number: 12,
-            strip: number,
-            place,
-        }),
+        Some(place) => Err(QuestionFault::new(StripQuestion::NewPoints, number, place)),
     }
 }
 
 // Question 12, of one strip.
 pub fn points_differ(s: Strip<'_>, number: u16) -> Result<(), StripFault>
-    requires { Whole s }
     ensures { result ≡ answered (q12 (told s.entry) number) tt }
 {
     if s.vertices as usize <= SLOTS {

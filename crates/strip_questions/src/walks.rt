@@ -1,18 +1,23 @@
 // Question 10: there are as many rounds as vertices. Each round is walked once, from its lowest slot, and marked.
 ghost use Rattle.std.specs.Prelude.{◌≡◌, ℕ, ◌<◌, ◌≤◌, true, ◌&&◌, length, replicate, if◌then◌else◌, nat_lt, slice_index};
 ghost use Rattle.flat.specs.Orbits.{indicator};
-ghost use Rattle.turning.specs.Limits.{max_edge, slots as max_slots, marks_for};
+ghost use Rattle.turning.specs.Limits.{slots as max_slots};
 ghost use Rattle.file.specs.Places.{answered};
 ghost use Rattle.file.specs.Strips.{home, low, opens, rounds, met, Turned};
 ghost use Rattle.file.specs.Verdict.{q10};
-ghost use Rattle.file.specs.Views.{told, Whole};
+ghost use Rattle.file.specs.Views.{told};
 
-use file::fault::StripFault;
+use file::fault::QuestionFault;
+use file::questions::{StripFault, StripQuestion};
 use file::view::Strip;
+use turning::limits::MARK_BYTES;
 
-fn mark_round(s: Strip<'_>, i: u16, marks: &mut [u8])
-    requires whole { (Whole s) × ((s.slots ≤ max_slots) × ((Turned (told s)) × ((i < s.slots) × (home (told s) i ≡ true)))) }
-    requires marks_len { length marks.old ≡ marks_for max_edge }
+// A walk by the strip itself: the slot that is marked next is the follower of this one.
+fn mark_round(s: Strip<'_>, i: u16, marks: &mut [u8; MARK_BYTES])
+    requires few { s.slots ≤ max_slots }
+    requires turned { Turned (told s) }
+    requires slot { i < s.slots }
+    requires home { home (told s) i ≡ true }
     ensures { (k : ℕ) → k < s.entry.slots → slice_index marks.new k ≡ (if met (told s.entry) i s.entry.slots k then 1 else slice_index marks.old k) }
 {
     let mut at = i;
@@ -25,17 +30,20 @@ fn mark_round(s: Strip<'_>, i: u16, marks: &mut [u8])
     }
 }
 
-fn opens_round(s: Strip<'_>, i: u16, marks: &[u8]) -> bool
-    requires whole { (Whole s) × ((s.slots ≤ max_slots) × ((Turned (told s)) × ((i < s.slots) × (length marks.now ≡ marks_for max_edge)))) }
-    requires i_value { slice_index marks.now i ≡ indicator (home (told s) i && nat_lt (low (told s) i) i) }
+fn opens_round(s: Strip<'_>, i: u16, marks: &[u8; MARK_BYTES]) -> bool
+    requires few { s.slots ≤ max_slots }
+    requires turned { Turned (told s) }
+    requires slot { i < s.slots }
+    requires marked { slice_index marks.now i ≡ indicator (home (told s) i && nat_lt (low (told s) i) i) }
     ensures { result ≡ opens (told s.entry) i }
 {
     s.is_home(i) && marks[i as usize] == 0
 }
 
-fn count_rounds(s: Strip<'_>, marks: &mut [u8]) -> u16
-    requires whole { (Whole s) × ((s.slots ≤ max_slots) × (Turned (told s))) }
-    requires marks_len { (length marks.old ≡ marks_for max_edge) × (marks.old ≡ replicate (length marks.old) 0) }
+fn count_rounds(s: Strip<'_>, marks: &mut [u8; MARK_BYTES]) -> u16
+    requires few { s.slots ≤ max_slots }
+    requires turned { Turned (told s) }
+    requires clean { marks.old ≡ replicate (length marks.old) 0 }
     ensures { result ≡ rounds (told s.entry) }
 {
     let mut count = 0;
@@ -49,18 +57,18 @@ fn count_rounds(s: Strip<'_>, marks: &mut [u8]) -> u16
 }
 
 // Question 10, of one strip.
-pub fn rounds_right(s: Strip<'_>, number: u16, marks: &mut [u8]) -> Result<(), StripFault>
-    requires whole { (Whole s) × ((s.slots ≤ max_slots) × (Turned (told s))) }
-    requires marks_len { length marks.old ≡ marks_for max_edge }
+pub fn rounds_right(
+    s: Strip<'_>,
+    number: u16,
+    marks: &mut [u8; MARK_BYTES],
+) -> Result<(), StripFault>
+    requires few { s.slots ≤ max_slots }
+    requires turned { Turned (told s) }
     ensures { result ≡ answered (q10 (told s.entry) number) tt }
 {
     marks.fill(0);
     if count_rounds(s, marks) != s.vertices {
-        return Err(StripFault {
-            number: 10,
-            strip: number,
-            place: 0,
-        });
+        return Err(QuestionFault::new(StripQuestion::Rounds, number, 0));
     }
     Ok(())
 }

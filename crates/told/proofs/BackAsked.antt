@@ -12,6 +12,7 @@ use Rattle.turning.proofs.Tests.{round_walk}
 use Rattle.chart.specs.Points.{same_point, told_west, west}
 use Rattle.chart.specs.Linework.{Linework}
 use Rattle.laws.specs.Keeps.{Sound}
+use Rattle.file.specs.declared.questions.StripQuestion.TheVariants.{Names, Pairs, Followers, Followed, Rounds, Points, NewPoints}
 use Rattle.file.specs.Places.{at, first_bad, any_below}
 use Rattle.file.specs.Strips.{none, Strip, home, names, followed, vertex, rounds, start}
 use Rattle.file.specs.Questions.{named, name_good, paired, follower_good, followed_right, point_good, point_new, positive, wrong_way, west_first}
@@ -113,10 +114,10 @@ pub strip_passes : (bs : List ℤ) (l : Linework) → Sound max_edge l → (i : 
     → (w e : Option ℤ) → ((v : ℕ) → v < s.vertices → point_good w e s v ≡ true) → (j : ℕ) → strip_verdict w e s j ≡ None
 unfolding strip_verdict
 strip_passes bs l sound i s few told w e lies j =
-    skip (q6 s j) (q7 s j ∷ q8 s j ∷ q9 s j ∷ q10 s j ∷ q11 w e s j ∷ q12 s j ∷ []) (all_good (strip_fault 6 j) s.slots (name_good max_edge s) (names_good max_edge bs l sound i s few told))
-    ∙ skip (q7 s j) (q8 s j ∷ q9 s j ∷ q10 s j ∷ q11 w e s j ∷ q12 s j ∷ []) (all_good (strip_fault 7 j) s.slots (paired s) (all_paired max_edge bs l sound i s few told))
-    ∙ skip (q8 s j) (q9 s j ∷ q10 s j ∷ q11 w e s j ∷ q12 s j ∷ []) (all_good (strip_fault 8 j) s.slots (follower_good s) (followers_good max_edge bs l sound i s few told))
-    ∙ skip (q9 s j) (q10 s j ∷ q11 w e s j ∷ q12 s j ∷ []) (all_good (strip_fault 9 j) s.slots (followed_right s) (all_followed max_edge bs l sound i s few told))
-    ∙ skip (q10 s j) (q11 w e s j ∷ q12 s j ∷ []) (once_right (λ _. strip_fault 10 j 0) (eqb (rounds s) s.vertices) (eq-eqb (rounds s) s.vertices told.round))
-    ∙ skip (q11 w e s j) (q12 s j ∷ []) (all_good (strip_fault 11 j) s.vertices (point_good w e s) lies)
-    ∙ skip (q12 s j) [] (all_good (strip_fault 12 j) s.vertices (point_new s) (points_new max_edge bs l sound i s few told))
+    skip (q6 s j) (q7 s j ∷ q8 s j ∷ q9 s j ∷ q10 s j ∷ q11 w e s j ∷ q12 s j ∷ []) (all_good (strip_fault Names j) s.slots (name_good max_edge s) (names_good max_edge bs l sound i s few told))
+    ∙ skip (q7 s j) (q8 s j ∷ q9 s j ∷ q10 s j ∷ q11 w e s j ∷ q12 s j ∷ []) (all_good (strip_fault Pairs j) s.slots (paired s) (all_paired max_edge bs l sound i s few told))
+    ∙ skip (q8 s j) (q9 s j ∷ q10 s j ∷ q11 w e s j ∷ q12 s j ∷ []) (all_good (strip_fault Followers j) s.slots (follower_good s) (followers_good max_edge bs l sound i s few told))
+    ∙ skip (q9 s j) (q10 s j ∷ q11 w e s j ∷ q12 s j ∷ []) (all_good (strip_fault Followed j) s.slots (followed_right s) (all_followed max_edge bs l sound i s few told))
+    ∙ skip (q10 s j) (q11 w e s j ∷ q12 s j ∷ []) (once_right (λ _. strip_fault Rounds j 0) (eqb (rounds s) s.vertices) (eq-eqb (rounds s) s.vertices told.round))
+    ∙ skip (q11 w e s j) (q12 s j ∷ []) (all_good (strip_fault Points j) s.vertices (point_good w e s) lies)
+    ∙ skip (q12 s j) [] (all_good (strip_fault NewPoints j) s.vertices (point_new s) (points_new max_edge bs l sound i s few told))

@@ -6,6 +6,9 @@ use Rattle.turning.specs.Limits.{max_edge, max_strips, slots as max_slots}
 use Rattle.chart.specs.Points.{on_sheet, within}
 use Rattle.chart.specs.Linework.{Linework}
 use Rattle.strips.specs.Borders.{strip_of}
+use Rattle.file.specs.declared.questions.SeamQuestion.{SeamQuestion}
+use Rattle.file.specs.declared.questions.FileQuestion.TheVariants.{Count, SizesThere, SizesFit, Length, Borders}
+use Rattle.file.specs.declared.questions.SeamQuestion.TheVariants.{RunsOn, StartsHere, Homes, WestFirst}
 use Rattle.file.specs.Places.{sum_below, at, each}
 use Rattle.file.specs.Layout.{strips, strip, slots_in, vertices_in, border, strip_at, western, eastern}
 use Rattle.file.specs.Strips.{none, rounds, opens}
@@ -59,11 +62,11 @@ module _ (b : List ℕ) (bs : List ℤ) (l : Linework) (may : Standing max_edge 
 
   file_passes : file_verdict b ≡ None
   file_passes = file_none b
-      (once_right (λ _. file_fault 1 0 0) (count_good b) counted)
-      (once_right (λ _. file_fault 2 0 0) (sizes_there b) (le-leb _ _ (omega (arith, tells.whole))))
-      (all_good (λ j. file_fault 3 (j + 1) 0) (strips b) (size_good b) sized)
-      (once_right (λ _. file_fault 4 0 0) (length_right b) (eq-eqb (length b) (strip_at b (strips b)) tells.whole))
-      (all_good (λ k. file_fault 5 0 k) (strips b - 1) (border_good b) bordered)
+      (once_right (λ _. file_fault Count 0 0) (count_good b) counted)
+      (once_right (λ _. file_fault SizesThere 0 0) (sizes_there b) (le-leb _ _ (omega (arith, tells.whole))))
+      (all_good (λ j. file_fault SizesFit (j + 1) 0) (strips b) (size_good b) sized)
+      (once_right (λ _. file_fault Length 0 0) (length_right b) (eq-eqb (length b) (strip_at b (strips b)) tells.whole))
+      (all_good (λ k. file_fault Borders 0 k) (strips b - 1) (border_good b) bordered)
 
   -- ---- questions 6 to 12
   past : (x : ℤ) (j : ℕ) → j < strips b → strip_of bs x ≡ suc j → not_west_of (western b j) x ≡ true
@@ -84,17 +87,17 @@ module _ (b : List ℕ) (bs : List ℤ) (l : Linework) (may : Standing max_edge 
       (λ j h. strip_passes bs l may.sound (suc j) (strip b j) (few j h) (tells.each j h) (western b j) (eastern b j) (lies j h) (j + 1))
 
   -- ---- questions 13 to 16
-  over : (q : ℕ) (good : ℕ → ℕ → Bool) → ((j : ℕ) → j < strips b → (k : ℕ) → k < (strip b j).slots → good j k ≡ true) → over_strips q b good ≡ None
+  over : (q : SeamQuestion) (good : ℕ → ℕ → Bool) → ((j : ℕ) → j < strips b → (k : ℕ) → k < (strip b j).slots → good j k ≡ true) → over_strips q b good ≡ None
   over q good all = first_fault_none (λ j. at (seam_fault q (j + 1)) (each (strip b j).slots (good j))) (strips b)
       (λ j h. all_good (seam_fault q (j + 1)) (strip b j).slots (good j) (all j h))
 
   seams_pass : seam_verdict b ≡ None
   unfolding seam_verdict q13 q14 q15 q16
   seams_pass =
-      skip (q13 b) (q14 b ∷ q15 b ∷ q16 b ∷ []) (over 13 (runs_on (strips b) (strip b)) (all_run_on max_edge bs l may.sound (strips b) (strip b) tells.count few tells.each))
-      ∙ skip (q14 b) (q15 b ∷ q16 b ∷ []) (over 14 (starts_here (strips b) (strip b)) (all_start_here max_edge bs l may.sound (strips b) (strip b) tells.count few tells.each))
-      ∙ skip (q15 b) (q16 b ∷ []) (over 15 (home_new (strip b)) (all_home_new max_edge bs l may.sound (strips b) (strip b) tells.count few tells.each))
-      ∙ skip (q16 b) [] (over 16 (λ j. west_first (strip b j)) (λ j h. all_west_first max_edge bs l may.sound (suc j) (strip b j) (few j h) (tells.each j h)))
+      skip (q13 b) (q14 b ∷ q15 b ∷ q16 b ∷ []) (over RunsOn (runs_on (strips b) (strip b)) (all_run_on max_edge bs l may.sound (strips b) (strip b) tells.count few tells.each))
+      ∙ skip (q14 b) (q15 b ∷ q16 b ∷ []) (over StartsHere (starts_here (strips b) (strip b)) (all_start_here max_edge bs l may.sound (strips b) (strip b) tells.count few tells.each))
+      ∙ skip (q15 b) (q16 b ∷ []) (over Homes (home_new (strip b)) (all_home_new max_edge bs l may.sound (strips b) (strip b) tells.count few tells.each))
+      ∙ skip (q16 b) [] (over WestFirst (λ j. west_first (strip b j)) (λ j h. all_west_first max_edge bs l may.sound (suc j) (strip b j) (few j h) (tells.each j h)))
 
   -- ---- together
   passes : shape_verdict b ≡ None

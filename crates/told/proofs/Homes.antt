@@ -6,6 +6,9 @@ use Rattle.flat.proofs.Basics.{T_true, true_T}
 use Rattle.flat.proofs.Whole.{equal_is}
 use Rattle.turning.specs.Limits.{slots as max_slots, max_strips}
 use Rattle.laws.proofs.Equal.{some_same}
+use Rattle.file.specs.declared.questions.SeamQuestion.{SeamQuestion}
+use Rattle.file.specs.declared.questions.FileQuestion.TheVariants.{Count, SizesFit, Length, Borders}
+use Rattle.file.specs.declared.questions.SeamQuestion.TheVariants.{RunsOn, StartsHere, Homes, WestFirst}
 use Rattle.file.specs.Places.{any_below, first_bad, first_from, first_of, at, each, once, sum_below}
 use Rattle.file.specs.Layout.{strips, strip, slots_in, vertices_in, strip_at}
 use Rattle.file.specs.Strips.{Strip, home, home_names}
@@ -156,7 +159,7 @@ module _ (b : List ℕ) where
       (at_none of_file (file_verdict b) p.0, at_none of_strip (strips_verdict b) q.0, at_none of_seam (seam_verdict b) (sym (last_one (at of_seam (seam_verdict b))) ∙ q.1))
 
   -- a question of the seams, at each slot
-  over : (q : ℕ) (good : ℕ → ℕ → Bool) → over_strips q b good ≡ None → (j : ℕ) → j < strips b → (i : ℕ) → i < (strip b j).slots → good j i ≡ true
+  over : (q : SeamQuestion) (good : ℕ → ℕ → Bool) → over_strips q b good ≡ None → (j : ℕ) → j < strips b → (i : ℕ) → i < (strip b j).slots → good j i ≡ true
   over q good e j l = each_good (seam_fault q (j + 1)) (strip b j).slots (good j)
       (none_below (λ k. at (seam_fault q (k + 1)) (each (strip b k).slots (good k))) 0 (strips b) e j (omega arith) (omega arith))
 
@@ -170,14 +173,14 @@ module _ (b : List ℕ) where
   pub passed : shape_verdict b ≡ None → Passed b
   unfolding q13 q14 q15 q16
   passed v = record {
-    shaped = shaped b (strips b) refl some (leb-true (strips b) max_strips counts.1) (eqb-true (length b) (strip_at b (strips b)) (once_true (λ _. file_fault 4 0 0) (ask.length_right b) file.3)) file.2;
-    total = in_all some (each_good (λ j. file_fault 3 (j + 1) 0) (strips b) (ask.size_good b) file.2);
-    rises = each_good (λ k. file_fault 5 0 k) (strips b - 1) (ask.border_good b) file.4;
+    shaped = shaped b (strips b) refl some (leb-true (strips b) max_strips counts.1) (eqb-true (length b) (strip_at b (strips b)) (once_true (λ _. file_fault Length 0 0) (ask.length_right b) file.3)) file.2;
+    total = in_all some (each_good (λ j. file_fault SizesFit (j + 1) 0) (strips b) (ask.size_good b) file.2);
+    rises = each_good (λ k. file_fault Borders 0 k) (strips b - 1) (ask.border_good b) file.4;
     judged = judged b (strips b) refl parts.1;
-    runs_on = over 13 (ask.runs_on (strips b) (strip b)) seams.0;
-    starts_here = over 14 (ask.starts_here (strips b) (strip b)) seams.1;
-    home_new = over 15 (ask.home_new (strip b)) seams.2;
-    west_first = over 16 (λ j. ask.west_first (strip b j)) seams.3;
+    runs_on = over RunsOn (ask.runs_on (strips b) (strip b)) seams.0;
+    starts_here = over StartsHere (ask.starts_here (strips b) (strip b)) seams.1;
+    home_new = over Homes (ask.home_new (strip b)) seams.2;
+    west_first = over WestFirst (λ j. ask.west_first (strip b j)) seams.3;
   }
     where
       parts : (file_verdict b ≡ None) × (strips_verdict b ≡ None) × (seam_verdict b ≡ None)
@@ -191,7 +194,7 @@ module _ (b : List ℕ) where
 
       counts : (leb 1 (strips b) ≡ true) × (leb (strips b) max_strips ≡ true)
       counts = and_parts (leb 1 (strips b)) (leb (strips b) max_strips)
-          (and_parts (leb 2 (length b)) (leb 1 (strips b) && leb (strips b) max_strips) (once_true (λ _. file_fault 1 0 0) (ask.count_good b) file.0)).1
+          (and_parts (leb 2 (length b)) (leb 1 (strips b) && leb (strips b) max_strips) (once_true (λ _. file_fault Count 0 0) (ask.count_good b) file.0)).1
 
       some : 1 ≤ strips b
       some = leb-true 1 (strips b) counts.0

@@ -1,5 +1,6 @@
-use Rattle.std.proofs.Common.{◌≡◌, ◌+◌, true, false, length, sym, ap, ◌∙◌, arith, rules}
+use Rattle.std.proofs.Common.{◌≡◌, ◌+◌, Err, true, false, length, sym, ap, ◌∙◌, arith, rules}
 use Rattle.std.proofs.lemmas.Bool.Decides.{nat_tests}
+use Rattle.file.specs.declared.questions.FileQuestion.TheVariants.{SizesFit}
 use Rattle.file.specs.Questions.{size_good}
 use Rattle.file.specs.Layout.{strips, slots_in, vertices_in, strip_length, strip_at}
 use Rattle.file.specs.Verdict.{file_fault}
@@ -16,7 +17,7 @@ returns-then-sizes c =
     let v : c.sizes-sizes.result.vertices ≡ vertices_in c.args.bytes.now c.loop-j.j = r.0 in
     let h : c.sizes-sizes.result.slots ≡ slots_in c.args.bytes.now c.loop-j.j = r.1 in
     let bad : size_good c.args.bytes.now c.loop-j.j ≡ false = grind (arith, nat_tests) in
-    fault_some (λ j. file_fault 3 (j + 1) 0) (strip_at c.args.bytes.now c.args.count) _ _ (sym c.loop-j.invariant.4 ∙ bad_here (size_good c.args.bytes.now) c.loop-j.j (strips c.args.bytes.now) (search rules) bad)
+    ap Err c.new.ensures ∙ fault_some (λ j. file_fault SizesFit (j + 1) 0) (strip_at c.args.bytes.now c.args.count) _ _ (sym c.loop-j.invariant.4 ∙ bad_here (size_good c.args.bytes.now) c.loop-j.j (strips c.args.bytes.now) (search rules) bad)
 
 pub loop-j-preserved : goal.loop-j-preserved
 loop-j-preserved c =

@@ -5,20 +5,24 @@ use Rattle.seam_questions.proofs.Numbering.{lent_sound}
 use Rattle.reading.specs.Entering.{Entered}
 use Rattle.reading.proofs.entering.enter_strips.Goals as goal
 
+pub invariant_of-file : goal.invariant_of-file
+invariant_of-file c = record { shaped = c.requires.strips.0 }
+
 pub number_vertices-requires : goal.number_vertices-requires
-number_vertices-requires c =
-    let sound = lent_sound c.args.bytes.now c.args.count c.loop-j.j (told c.lend_strip-s.result) c.requires.strips.1 c.loop-j-test.true c.lend_strip-s.ensures.told in
-    (c.lend_strip-s.ensures.whole, (sound, (c.lend_strip-s.ensures.few, c.loop-j.auto.line ∙ c.requires.line)))
+number_vertices-requires c = record {
+  sound = lent_sound c.args.bytes.now c.args.count c.loop-j.j (told c.strip-s.result) c.requires.strips.1 c.loop-j-test.true c.strip-s.ensures.told;
+  few = c.strip-s.ensures.few;
+}
 
 pub enter_strip-requires : goal.enter_strip-requires
 enter_strip-requires c =
-    let sound = lent_sound c.args.bytes.now c.args.count c.loop-j.j (told c.lend_strip-s.result) c.requires.strips.1 c.loop-j-test.true c.lend_strip-s.ensures.told in
+    let sound = lent_sound c.args.bytes.now c.args.count c.loop-j.j (told c.strip-s.result) c.requires.strips.1 c.loop-j-test.true c.strip-s.ensures.told in
     let below : c.loop-j.j < strips c.args.bytes.now = omega (arith, c.requires.strips.0.count) in
     record {
-      strip = (c.lend_strip-s.ensures.whole, (sound, c.lend_strip-s.ensures.told));
+      strip = (sound, c.strip-s.ensures.told);
       tells = c.requires.tells.each c.loop-j.j below;
       sound = c.requires.sound;
-      line = (c.number_vertices.auto.line ∙ c.loop-j.auto.line ∙ c.requires.line, c.number_vertices.ensures);
+      line = c.number_vertices.ensures;
       entered = (c.loop-j.auto.entries ∙ c.requires.entered.0, c.loop-j.invariant);
     }
 

@@ -7,5 +7,5 @@ use Rattle.seam_questions.proofs.beyond.is_beyond.Goals as goal
 
 pub returns : goal.returns
 returns c =
-    told_mark _ (beyond (strips c.args.bytes.now) (strip c.args.bytes.now) c.args.j ((told c.args.s).name c.args.i))
-    (ap (λ k. get_or c.args.marks.now k 0) c.place_in.ensures.value ∙ c.requires.marks_len.1 ((told c.args.s).name c.args.i) c.requires.whole.1.1.1)
+    told_mark _ (beyond (strips c.args.judged.file.bytes.now) (strip c.args.judged.file.bytes.now) c.args.j ((told c.args.s).name c.args.i))
+    (ap (λ k. get_or c.args.marks.now k 0) c.place_in.ensures.value ∙ c.requires.marked ((told c.args.s).name c.args.i) c.requires.named)

@@ -6,5 +6,5 @@ use Rattle.seam_questions.proofs.homes.all_claimed.Given as goal
 
 abbrev pub invariant-loop-i : goal.invariant-loop-i
 invariant-loop-i l =
-    HomesMarked l.bytes l.j l.i l.marks
-    × ((k : ℕ) → k < l.i → home_new (strip l.bytes) l.j k ≡ true)
+    HomesMarked l.judged.file.bytes.now l.j l.i l.marks
+    × ((k : ℕ) → k < l.i → home_new (strip l.judged.file.bytes.now) l.j k ≡ true)

@@ -1,4 +1,5 @@
 use Rattle.std.proofs.Common.{◌≡◌, ℕ, ◌+◌, ◌<◌, None}
+use Rattle.file.specs.declared.questions.SeamQuestion.TheVariants.{Homes}
 use Rattle.file.specs.Layout.{strip}
 use Rattle.file.specs.Places.{at, each}
 use Rattle.file.specs.Questions.{home_new}
@@ -8,5 +9,5 @@ use Rattle.seam_questions.proofs.homes.claim_all.Given as goal
 
 abbrev pub invariant-loop-j : goal.invariant-loop-j
 invariant-loop-j l =
-    HomesMarked l.bytes l.j 0 l.marks
-    × ((k : ℕ) → k < l.j → at (seam_fault 15 (k + 1)) (each (strip l.bytes k).slots (home_new (strip l.bytes) k)) ≡ None)
+    HomesMarked l.judged.file.bytes.now l.j 0 l.marks
+    × ((k : ℕ) → k < l.j → at (seam_fault Homes (k + 1)) (each (strip l.judged.file.bytes.now k).slots (home_new (strip l.judged.file.bytes.now) k)) ≡ None)

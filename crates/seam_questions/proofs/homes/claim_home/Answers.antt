@@ -12,27 +12,27 @@ use Rattle.seam_questions.proofs.homes.claim_home.Goals as goal
 
 pub returns-then-not-is_home : goal.returns-then-not-is_home
 returns-then-not-is_home c =
-    let f : home (strip c.args.bytes.now c.args.j) c.args.i ≡ false = ap (λ y. home y c.args.i) (sym c.requires.whole.1.0) ∙ sym c.is_home.ensures ∙ c.if-not-is_home.true in
-    record { answer = new_external c.args.bytes.now c.args.j c.args.i f; held = λ _. home_passed c.args.bytes.now c.args.j c.args.i _ f c.requires.marks_len.1 }
+    let f : home (strip c.args.judged.file.bytes.now c.args.j) c.args.i ≡ false = ap (λ y. home y c.args.i) (sym c.requires.strip) ∙ sym c.is_home.ensures ∙ c.if-not-is_home.true in
+    record { answer = new_external c.args.judged.file.bytes.now c.args.j c.args.i f; held = λ _. home_passed c.args.judged.file.bytes.now c.args.j c.args.i _ f c.requires.marked }
 
 pub returns-then-marks-place-ne0 : goal.returns-then-marks-place-ne0
 returns-then-marks-place-ne0 c =
-    let t : home (strip c.args.bytes.now c.args.j) c.args.i ≡ true = ap (λ y. home y c.args.i) (sym c.requires.whole.1.0) ∙ sym c.is_home.ensures ∙ c.if-not-is_home.false in
-    let g : named max_edge ((strip c.args.bytes.now c.args.j).name c.args.i) ≡ true = subst (λ y. named max_edge (y.name c.args.i) ≡ true) c.requires.whole.1.0 c.requires.whole.1.1.1 in
-    let m : get_or c.args.marks.now c.place_in-place.result 0 ≡ indicator (home_before (strip c.args.bytes.now) c.args.j c.args.i ((strip c.args.bytes.now c.args.j).name c.args.i)) =
-    ap (λ k. get_or c.args.marks.now k 0) (c.place_in-place.ensures.value ∙ ap (λ y. mark_at max_edge (y.name c.args.i)) c.requires.whole.1.0) ∙ c.requires.marks_len.1 ((strip c.args.bytes.now c.args.j).name c.args.i) g in
-    record { answer = sym (eqb_not _ c.if-marks-place-ne0.true) ∙ new_by_mark c.args.bytes.now c.args.j c.args.i _ t m; held = λ e. absurd (bool_apart false e refl) }
+    let t : home (strip c.args.judged.file.bytes.now c.args.j) c.args.i ≡ true = ap (λ y. home y c.args.i) (sym c.requires.strip) ∙ sym c.is_home.ensures ∙ c.if-not-is_home.false in
+    let g : named max_edge ((strip c.args.judged.file.bytes.now c.args.j).name c.args.i) ≡ true = subst (λ y. named max_edge (y.name c.args.i) ≡ true) c.requires.strip c.requires.named in
+    let m : get_or c.args.marks.now c.place_in-place.result 0 ≡ indicator (home_before (strip c.args.judged.file.bytes.now) c.args.j c.args.i ((strip c.args.judged.file.bytes.now c.args.j).name c.args.i)) =
+    ap (λ k. get_or c.args.marks.now k 0) (c.place_in-place.ensures.value ∙ ap (λ y. mark_at max_edge (y.name c.args.i)) c.requires.strip) ∙ c.requires.marked ((strip c.args.judged.file.bytes.now c.args.j).name c.args.i) g in
+    record { answer = sym (eqb_not _ c.if-marks-place-ne0.true) ∙ new_by_mark c.args.judged.file.bytes.now c.args.j c.args.i _ t m; held = λ e. absurd (bool_apart false e refl) }
 
 pub returns : goal.returns
 returns c =
-    let t : home (strip c.args.bytes.now c.args.j) c.args.i ≡ true = ap (λ y. home y c.args.i) (sym c.requires.whole.1.0) ∙ sym c.is_home.ensures ∙ c.if-not-is_home.false in
-    let g : named max_edge ((strip c.args.bytes.now c.args.j).name c.args.i) ≡ true = subst (λ y. named max_edge (y.name c.args.i) ≡ true) c.requires.whole.1.0 c.requires.whole.1.1.1 in
-    let at = c.place_in-place.ensures.value ∙ ap (λ y. mark_at max_edge (y.name c.args.i)) c.requires.whole.1.0 in
-    let m : get_or c.args.marks.now c.place_in-place.result 0 ≡ indicator (home_before (strip c.args.bytes.now) c.args.j c.args.i ((strip c.args.bytes.now c.args.j).name c.args.i)) =
-    ap (λ k. get_or c.args.marks.now k 0) at ∙ c.requires.marks_len.1 ((strip c.args.bytes.now c.args.j).name c.args.i) g in
-    let e : set c.args.marks.now c.place_in-place.result 1 ≡ set c.args.marks.now (mark_at max_edge ((strip c.args.bytes.now c.args.j).name c.args.i)) 1 =
+    let t : home (strip c.args.judged.file.bytes.now c.args.j) c.args.i ≡ true = ap (λ y. home y c.args.i) (sym c.requires.strip) ∙ sym c.is_home.ensures ∙ c.if-not-is_home.false in
+    let g : named max_edge ((strip c.args.judged.file.bytes.now c.args.j).name c.args.i) ≡ true = subst (λ y. named max_edge (y.name c.args.i) ≡ true) c.requires.strip c.requires.named in
+    let at = c.place_in-place.ensures.value ∙ ap (λ y. mark_at max_edge (y.name c.args.i)) c.requires.strip in
+    let m : get_or c.args.marks.now c.place_in-place.result 0 ≡ indicator (home_before (strip c.args.judged.file.bytes.now) c.args.j c.args.i ((strip c.args.judged.file.bytes.now c.args.j).name c.args.i)) =
+    ap (λ k. get_or c.args.marks.now k 0) at ∙ c.requires.marked ((strip c.args.judged.file.bytes.now c.args.j).name c.args.i) g in
+    let e : set c.args.marks.now c.place_in-place.result 1 ≡ set c.args.marks.now (mark_at max_edge ((strip c.args.judged.file.bytes.now c.args.j).name c.args.i)) 1 =
     ap (λ k. set c.args.marks.now k 1) at in
     record {
-      answer = sym (eqb_is _ c.if-marks-place-ne0.false) ∙ new_by_mark c.args.bytes.now c.args.j c.args.i _ t m;
-      held = λ _. subst (HomesMarked c.args.bytes.now c.args.j _) (sym e) (home_marked c.args.bytes.now c.args.j c.args.i c.args.marks.now c.requires.marks_len.0 g t c.requires.marks_len.1);
+      answer = sym (eqb_is _ c.if-marks-place-ne0.false) ∙ new_by_mark c.args.judged.file.bytes.now c.args.j c.args.i _ t m;
+      held = λ _. subst (HomesMarked c.args.judged.file.bytes.now c.args.j _) (sym e) (home_marked c.args.judged.file.bytes.now c.args.j c.args.i c.args.marks.now c.told-marks g t c.requires.marked);
     }

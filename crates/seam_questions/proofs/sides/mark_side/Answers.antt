@@ -14,13 +14,13 @@ loop-i-preserved c =
     let asked : c.is_on_side.result ≡ on_side c.args.side ((told c.args.s).name c.loop-i.i) =
     c.is_on_side.ensures ∙ ap (on_side c.args.side) (to_z-of_z w16 c.name.result f ∙ c.name.ensures) in
     let old : ℤ → _ = λ z. get_or c.args.marks.now (mark_at max_edge z) 0 in
-    let long : length c.loop-i.marks ≡ marks_for max_edge = c.loop-i.auto.marks ∙ c.requires.marks_len in
+    let long : length c.loop-i.marks ≡ marks_for max_edge = search rules in
     elim c.if-is_on_side.branch [
       | then-is_on_side w ↦
           let e : c.if-is_on_side.marks ≡ set c.loop-i.marks (mark_at max_edge ((told c.args.s).name c.loop-i.i)) 1 =
           w.marks-is ∙ ap (λ k. set c.loop-i.marks k 1) w.place_in.ensures.value in
           λ z h. ap (λ m. get_or m (mark_at max_edge z) 0) e
-          ∙ side_marked c.args.side (told c.args.s) c.loop-i.i c.loop-i.marks old long (c.requires.whole.1 c.loop-i.i c.loop-i-test.true)
+          ∙ side_marked c.args.side (told c.args.s) c.loop-i.i c.loop-i.marks old long (c.requires.named c.loop-i.i c.loop-i-test.true)
           (sym asked ∙ w.if-is_on_side.true) c.loop-i.invariant z h
       | else-is_on_side w ↦
           λ z h. ap (λ m. get_or m (mark_at max_edge z) 0) w.marks-is

@@ -13,16 +13,11 @@ opens_is_home : (a b : Bool) → (a && b) ≡ true → a ≡ true
 opens_is_home a b e = grind arith
 
 pub loop-i-init : goal.loop-i-init
-loop-i-init c = (refl, omega arith, none_numbered (told c.args.s) c.requires.whole.1.0 c.args.line.now c.requires.line_len.0 c.requires.line_len.1)
+loop-i-init c = (refl, omega arith, none_numbered (told c.args.s) c.requires.sound c.args.line.now c.told-line c.requires.clean)
 
-pub opens_round-requires : goal.opens_round-requires
-opens_round-requires c = (c.requires.whole.0, (c.requires.whole.1.0, (c.loop-i-test.true, (c.loop-i.auto.line ∙ c.requires.line_len.0, c.loop-i.invariant.2))))
-
-pub number_round-requires : goal.number_round-requires
-number_round-requires c =
-    let o : opens (told c.args.s) c.loop-i.i ≡ true = sym c.opens_round.ensures ∙ c.if-opens_round.true in
-    let h : home (told c.args.s) c.loop-i.i ≡ true = opens_is_home (home (told c.args.s) c.loop-i.i) (eqb (low (told c.args.s) c.loop-i.i) c.loop-i.i) o in
-    record { whole = (c.requires.whole.0, (c.requires.whole.1.0, (c.loop-i-test.true, h))); v_lt_max_slots = (omega (arith, c.loop-i.invariant.1, c.requires.whole.1.1, c.loop-i-test.true), c.loop-i.auto.line ∙ c.requires.line_len.0) }
+pub number_round-requires-clause-home : goal.number_round-requires-clause-home
+number_round-requires-clause-home c =
+    opens_is_home (home (told c.args.s) c.loop-i.i) (eqb (low (told c.args.s) c.loop-i.i) c.loop-i.i) (sym c.opens_round.ensures ∙ c.if-opens_round.true)
 
 pub loop-i-preserved : goal.loop-i-preserved
 loop-i-preserved c = elim c.if-opens_round.branch [
@@ -34,7 +29,7 @@ loop-i-preserved c = elim c.if-opens_round.branch [
         omega (arith, w.count-is, c.loop-i.invariant.0),
         omega (arith, w.count-is, c.loop-i.invariant.1),
         (λ k h. ap (λ m. vertex_at m (slot_at s k)) w.line-is
-            ∙ round_numbered s c.requires.whole.1.0.turned c.loop-i.i c.loop-i-test.true o c.loop-i.count c.loop-i.invariant.0 k _ _ h (c.loop-i.invariant.2 k h) (w.number_round.ensures k h)),
+            ∙ round_numbered s c.requires.sound.turned c.loop-i.i c.loop-i-test.true o c.loop-i.count c.loop-i.invariant.0 k _ _ h (c.loop-i.invariant.2 k h) (w.number_round.ensures k h)),
       )
   | else-opens_round w ↦
       let s = told c.args.s in
@@ -44,11 +39,11 @@ loop-i-preserved c = elim c.if-opens_round.branch [
         omega (arith, w.count-is, c.loop-i.invariant.0),
         omega (arith, w.count-is, c.loop-i.invariant.1),
         (λ k h. ap (λ m. vertex_at m (slot_at s k)) w.line-is ∙ c.loop-i.invariant.2 k h
-            ∙ round_passed s c.requires.whole.1.0.turned c.loop-i.i c.loop-i-test.true o k h),
+            ∙ round_passed s c.requires.sound.turned c.loop-i.i c.loop-i-test.true o k h),
       )
 ]
 
 pub returns : goal.returns
 returns c =
     let e : c.loop-i.i ≡ c.args.s.slots = search rules in
-    all_numbered (told c.args.s) c.requires.whole.1.0 c.loop-i.line c.loop-i.i e c.loop-i.invariant.2
+    all_numbered (told c.args.s) c.requires.sound c.loop-i.line c.loop-i.i e c.loop-i.invariant.2

@@ -1,6 +1,6 @@
-use Rattle.std.proofs.Common.{◌≡◌, ◌+◌, ◌<◌, None, Err, sym, ap, ◌∙◌, arith, rules, below_more}
+use Rattle.std.proofs.Common.{◌≡◌, ◌+◌, ◌<◌, None, Err, sym, ap, ◌∙◌, arith, below_more}
 use Rattle.std.proofs.lemmas.Result.{err_from_is_err_and}
-use Rattle.turning.specs.Limits.{max_strips}
+use Rattle.file.specs.declared.questions.SeamQuestion.TheVariants.{WestFirst}
 use Rattle.file.specs.Layout.{strips, strip}
 use Rattle.file.specs.Places.{at, each}
 use Rattle.file.specs.Questions.{west_first}
@@ -10,40 +10,29 @@ use Rattle.file.proofs.Places.{ok_none, question_some, answer_some, answer_none,
 use Rattle.seam_questions.proofs.Numbering.{lent_sound}
 use Rattle.seam_questions.proofs.westward.ask_westward.Goals as goal
 
-pub number_vertices-requires : goal.number_vertices-requires
-number_vertices-requires c = (
-  c.lend_strip-s.ensures.whole,
-  (
-    lent_sound c.args.bytes.now c.args.count c.loop-j.j (told c.lend_strip-s.result) c.requires.1.0 c.loop-j-test.true c.lend_strip-s.ensures.told,
-    (c.lend_strip-s.ensures.few, c.loop-j.auto.line ∙ c.requires.1.1),
-  ),
-)
+pub number_vertices-requires-clause-sound : goal.number_vertices-requires-clause-sound
+number_vertices-requires-clause-sound c =
+    lent_sound c.args.judged.file.bytes.now c.args.judged.file.count c.loop-j.j (told c.strip-s.result) c.args.judged.judged c.loop-j-test.true c.strip-s.ensures.told
 
-pub all_westward-requires : goal.all_westward-requires
-all_westward-requires c =
-    let few : c.loop-j.j < max_strips = omega (arith, c.requires.0.few) in (
-      c.lend_strip-s.ensures.whole,
-      (
-        lent_sound c.args.bytes.now c.args.count c.loop-j.j (told c.lend_strip-s.result) c.requires.1.0 c.loop-j-test.true c.lend_strip-s.ensures.told,
-        (few, (search rules, c.number_vertices.ensures)),
-      ),
-    )
+pub all_westward-requires-clause-sound : goal.all_westward-requires-clause-sound
+all_westward-requires-clause-sound c =
+    lent_sound c.args.judged.file.bytes.now c.args.judged.file.count c.loop-j.j (told c.strip-s.result) c.args.judged.judged c.loop-j-test.true c.strip-s.ensures.told
 
 pub returns-in_err-all_westward : goal.returns-in_err-all_westward
 unfolding q16
 returns-in_err-all_westward c =
-    let here : at (seam_fault 16 (c.loop-j.j + 1)) (each (strip c.args.bytes.now c.loop-j.j).slots (west_first (strip c.args.bytes.now c.loop-j.j))) ≡ _ =
-    ap (λ y. at (seam_fault 16 (c.loop-j.j + 1)) (each y.slots (west_first y))) (sym c.lend_strip-s.ensures.told) ∙ question_some _ tt _ c.in_err-all_westward.ensures in
-    let below : c.loop-j.j < strips c.args.bytes.now = omega (arith, c.requires.0.count) in
+    let here : at (seam_fault WestFirst (c.loop-j.j + 1)) (each (strip c.args.judged.file.bytes.now c.loop-j.j).slots (west_first (strip c.args.judged.file.bytes.now c.loop-j.j))) ≡ _ =
+    ap (λ y. at (seam_fault WestFirst (c.loop-j.j + 1)) (each y.slots (west_first y))) (sym c.strip-s.ensures.told) ∙ question_some _ tt _ c.in_err-all_westward.ensures in
+    let below : c.loop-j.j < strips c.args.judged.file.bytes.now = omega (arith, c.args.judged.file.shaped.count) in
     let p = err_from_is_err_and c.from_residual.result c.from_residual.ensures.1 in
-    p.1 ∙ ap Err p.2 ∙ answer_some _ tt _ (first_fault_is (λ j. at (seam_fault 16 (j + 1)) (each (strip c.args.bytes.now j).slots (west_first (strip c.args.bytes.now j)))) (strips c.args.bytes.now) c.loop-j.j _ below c.loop-j.invariant here)
+    p.1 ∙ ap Err p.2 ∙ answer_some _ tt _ (first_fault_is (λ j. at (seam_fault WestFirst (j + 1)) (each (strip c.args.judged.file.bytes.now j).slots (west_first (strip c.args.judged.file.bytes.now j)))) (strips c.args.judged.file.bytes.now) c.loop-j.j _ below c.loop-j.invariant here)
 
 pub loop-j-preserved : goal.loop-j-preserved
 loop-j-preserved c =
-    let here : at (seam_fault 16 (c.loop-j.j + 1)) (each (strip c.args.bytes.now c.loop-j.j).slots (west_first (strip c.args.bytes.now c.loop-j.j))) ≡ None =
-    ap (λ y. at (seam_fault 16 (c.loop-j.j + 1)) (each y.slots (west_first y))) (sym c.lend_strip-s.ensures.told) ∙ ok_none _ _ _ c.in_ok-all_westward.ensures in
+    let here : at (seam_fault WestFirst (c.loop-j.j + 1)) (each (strip c.args.judged.file.bytes.now c.loop-j.j).slots (west_first (strip c.args.judged.file.bytes.now c.loop-j.j))) ≡ None =
+    ap (λ y. at (seam_fault WestFirst (c.loop-j.j + 1)) (each y.slots (west_first y))) (sym c.strip-s.ensures.told) ∙ ok_none _ _ _ c.in_ok-all_westward.ensures in
     below_more _ _ c.loop-j.invariant here
 
 pub returns : goal.returns
 unfolding q16
-returns c = answer_none _ tt (first_fault_none (λ j. at (seam_fault 16 (j + 1)) (each (strip c.args.bytes.now j).slots (west_first (strip c.args.bytes.now j)))) (strips c.args.bytes.now) (λ i h. c.loop-j.invariant i (omega (arith, c.requires.0.count))))
+returns c = answer_none _ tt (first_fault_none (λ j. at (seam_fault WestFirst (j + 1)) (each (strip c.args.judged.file.bytes.now j).slots (west_first (strip c.args.judged.file.bytes.now j)))) (strips c.args.judged.file.bytes.now) (λ i h. c.loop-j.invariant i (omega (arith, c.args.judged.file.shaped.count))))

@@ -1,11 +1,12 @@
-use Rattle.std.proofs.Common.{Err, sym, ap, ◌∙◌, rules}
+use Rattle.std.proofs.Common.{Err, sym, ap, ◌∙◌}
 use Rattle.std.proofs.lemmas.Result.{err_from_is_err_and}
 use Rattle.turning.specs.Limits.{max_edge}
+use Rattle.file.specs.declared.questions.StripQuestion.TheVariants.{Names, Followers, Followed}
 use Rattle.file.specs.Places.{answered}
 use Rattle.file.specs.Questions.{name_good, follower_good, followed_right}
 use Rattle.file.specs.Views.{told}
 use Rattle.file.specs.Verdict.{q6, q7, q8, q9, q10, q11, strip_fault}
-use Rattle.file.proofs.Places.{ok_none, question_some, answer_some, each_good}
+use Rattle.file.proofs.Places.{ok_none, question_some, answer_some, asked_good}
 use Rattle.file.proofs.Walking.{turned}
 use Rattle.strip_questions.proofs.Judging.{stops_6, stops_7, stops_8, stops_9, stops_10, stops_11, ends}
 use Rattle.strip_questions.proofs.asked.ask_strip.Goals as goal
@@ -62,26 +63,16 @@ returns-in_err-points_good c =
     p.1 ∙ ap Err p.2 ∙ answer_some _ tt _ (stops_11 c.args.west c.args.east (told c.args.s) c.args.number n6 n7 n8 n9 n10 _ here)
 
 pub names_paired-requires : goal.names_paired-requires
-names_paired-requires c =
-    let n6 = ok_none (q6 (told c.args.s) c.args.number) _ _ c.in_ok-names_good.ensures in
-    record { whole = (c.requires.0, each_good (strip_fault 6 c.args.number) c.args.s.slots (name_good max_edge (told c.args.s)) n6); marks_len = c.requires.1.1 }
+names_paired-requires c = record { named = asked_good (strip_fault Names c.args.number) c.args.s.slots (name_good max_edge (told c.args.s)) _ tt c.in_ok-names_good.ensures }
 
-pub slots_followed-requires : goal.slots_followed-requires
-slots_followed-requires c =
-    let n6 = ok_none (q6 (told c.args.s) c.args.number) _ _ c.in_ok-names_good.ensures in
-    let n7 = ok_none (q7 (told c.args.s) c.args.number) _ _ c.in_ok-names_paired.ensures in
-    let n8 = ok_none (q8 (told c.args.s) c.args.number) _ _ c.in_ok-followers_good.ensures in
-    record { whole = (c.requires.0, (c.requires.1.0, each_good (strip_fault 8 c.args.number) c.args.s.slots (follower_good (told c.args.s)) n8)); marks_len = search rules }
+pub slots_followed-requires-clause-followers : goal.slots_followed-requires-clause-followers
+slots_followed-requires-clause-followers c = asked_good (strip_fault Followers c.args.number) c.args.s.slots (follower_good (told c.args.s)) _ tt c.in_ok-followers_good.ensures
 
-pub rounds_right-requires : goal.rounds_right-requires
-rounds_right-requires c =
-    let n6 = ok_none (q6 (told c.args.s) c.args.number) _ _ c.in_ok-names_good.ensures in
-    let n7 = ok_none (q7 (told c.args.s) c.args.number) _ _ c.in_ok-names_paired.ensures in
-    let n8 = ok_none (q8 (told c.args.s) c.args.number) _ _ c.in_ok-followers_good.ensures in
-    let n9 = ok_none (q9 (told c.args.s) c.args.number) _ _ c.in_ok-slots_followed.ensures in
-    let eight = each_good (strip_fault 8 c.args.number) c.args.s.slots (follower_good (told c.args.s)) n8 in
-    let nine = each_good (strip_fault 9 c.args.number) c.args.s.slots (followed_right (told c.args.s)) n9 in
-    record { whole = (c.requires.0, (c.requires.1.0, turned (told c.args.s) eight nine)); marks_len = search rules }
+pub rounds_right-requires-clause-turned : goal.rounds_right-requires-clause-turned
+rounds_right-requires-clause-turned c =
+    turned (told c.args.s)
+    (asked_good (strip_fault Followers c.args.number) c.args.s.slots (follower_good (told c.args.s)) _ tt c.in_ok-followers_good.ensures)
+    (asked_good (strip_fault Followed c.args.number) c.args.s.slots (followed_right (told c.args.s)) _ tt c.in_ok-slots_followed.ensures)
 
 pub returns : goal.returns
 returns c =

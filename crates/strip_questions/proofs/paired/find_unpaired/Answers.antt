@@ -1,8 +1,9 @@
-use Rattle.std.proofs.Common.{◌≡◌, true, false, cond, length, get_or, set, neg_ℤ, ap, ◌∙◌, rules, below_more}
+use Rattle.std.proofs.Common.{◌≡◌, Err, true, false, cond, length, get_or, set, neg_ℤ, ap, ◌∙◌, rules, below_more}
 use Rattle.turning.specs.Limits.{max_edge, marks_for}
 use Rattle.search.specs.Marks.{place as mark_at}
 use Rattle.file.specs.Questions.{paired}
 use Rattle.file.specs.Strips.{names}
+use Rattle.file.specs.declared.questions.StripQuestion.TheVariants.{Pairs}
 use Rattle.file.specs.Views.{told}
 use Rattle.file.specs.Verdict.{strip_fault}
 use Rattle.file.proofs.Places.{first_bad_is, first_bad_none, fault_some, fault_none}
@@ -12,7 +13,7 @@ use Rattle.strip_questions.proofs.paired.find_unpaired.Goals.{then-marks-here-eq
 
 pub returns-then-marks-here-eq2 : goal.returns-then-marks-here-eq2
 returns-then-marks-here-eq2 c =
-    let g = c.requires.whole.1 c.loop-i.i c.loop-i-test.true in
+    let g = c.requires.named c.loop-i.i c.loop-i-test.true in
     let bad : paired (told c.args.s) c.loop-i.i ≡ false =
     elim c.then-marks-here-eq2.branch [
       | then-marks-here-eq2-via-then-marks-here-eq2 w ↦
@@ -22,12 +23,12 @@ returns-then-marks-here-eq2 c =
           pair_lone (told c.args.s) c.loop-i.i _
           (ap (λ k. get_or c.loop-i.marks k 0) w.place_against.ensures.value ∙ c.loop-i.invariant.0 (neg_ℤ ((told c.args.s).name c.loop-i.i)) (named_neg ((told c.args.s).name c.loop-i.i) g)) w.if-marks-place_against-eq0.true
     ] in
-    fault_some (strip_fault 7 c.args.number) _ _ _ (first_bad_is (paired (told c.args.s)) _ _ c.loop-i-test.true c.loop-i.invariant.1 bad)
+    ap Err c.new.ensures ∙ fault_some (strip_fault Pairs c.args.number) _ _ _ (first_bad_is (paired (told c.args.s)) _ _ c.loop-i-test.true c.loop-i.invariant.1 bad)
 
 pub loop-i-preserved : goal.loop-i-preserved
 loop-i-preserved c =
-    let g = c.requires.whole.1 c.loop-i.i c.loop-i-test.true in
-    let long : length c.loop-i.marks ≡ marks_for max_edge = c.loop-i.auto.marks ∙ c.requires.marks_len in
+    let g = c.requires.named c.loop-i.i c.loop-i-test.true in
+    let long : length c.loop-i.marks ≡ marks_for max_edge = search rules in
     let good : paired (told c.args.s) c.loop-i.i ≡ true =
     pair_good (told c.args.s) c.loop-i.i _ _ (search rules)
     (ap (λ k. get_or c.loop-i.marks k 0) c.place_in-here.ensures.value ∙ c.loop-i.invariant.0 ((told c.args.s).name c.loop-i.i) g)
@@ -40,4 +41,4 @@ loop-i-preserved c =
     )
 
 pub returns : goal.returns
-returns c = fault_none (strip_fault 7 c.args.number) _ _ (first_bad_none (paired (told c.args.s)) c.args.s.slots (λ i h. c.loop-i.invariant.1 i (search rules)))
+returns c = fault_none (strip_fault Pairs c.args.number) _ _ (first_bad_none (paired (told c.args.s)) c.args.s.slots (λ i h. c.loop-i.invariant.1 i (search rules)))

@@ -8,7 +8,7 @@ use Rattle.strip_questions.proofs.place.place_in.Goals as goal
 pub place_of-requires : goal.place_of-requires
 place_of-requires c =
     let f : SFits w16 c.name.result = search rules in
-    subst (λ z. named max_edge z ≡ true) (sym (to_z-of_z w16 c.name.result f ∙ c.name.ensures)) c.requires.1.1
+    subst (λ z. named max_edge z ≡ true) (sym (to_z-of_z w16 c.name.result f ∙ c.name.ensures)) c.requires.named
 
 pub returns : goal.returns
 returns c =

@@ -13,7 +13,7 @@ pub loop-i-init : goal.loop-i-init
 loop-i-init c = (
   refl,
   omega arith,
-  (λ k h. ap (λ m. get_or m k 0) c.requires.marks_len.1 ∙ get_or-replicate (length c.args.marks.now) k 0 0 (omega arith) ∙ nothing_below (home (told c.args.s) k) (low (told c.args.s) k)),
+  (λ k h. ap (λ m. get_or m k 0) c.requires.clean ∙ get_or-replicate (length c.args.marks.now) k 0 0 (omega arith) ∙ nothing_below (home (told c.args.s) k) (low (told c.args.s) k)),
 )
 
 pub loop-i-preserved : goal.loop-i-preserved
@@ -25,7 +25,7 @@ loop-i-preserved c = elim c.if-opens_round.branch [
         omega (arith, w.count-is, c.loop-i.invariant.0),
         omega (arith, w.count-is, c.loop-i.invariant.1),
         (λ k h. ap (λ m. get_or m k 0) w.marks-is
-            ∙ round_marked (told c.args.s) c.requires.whole.1.1 c.loop-i.i c.loop-i-test.true o k _ _ h (c.loop-i.invariant.2 k h) (w.mark_round.ensures k h)),
+            ∙ round_marked (told c.args.s) c.requires.turned c.loop-i.i c.loop-i-test.true o k _ _ h (c.loop-i.invariant.2 k h) (w.mark_round.ensures k h)),
       )
   | else-opens_round w ↦
       let o : opens (told c.args.s) c.loop-i.i ≡ false = sym c.opens_round.ensures ∙ w.if-opens_round.false in
@@ -34,7 +34,7 @@ loop-i-preserved c = elim c.if-opens_round.branch [
         omega (arith, w.count-is, c.loop-i.invariant.0),
         omega (arith, w.count-is, c.loop-i.invariant.1),
         (λ k h. ap (λ m. get_or m k 0) w.marks-is
-            ∙ round_skipped (told c.args.s) c.requires.whole.1.1 c.loop-i.i c.loop-i-test.true o k _ h (c.loop-i.invariant.2 k h)),
+            ∙ round_skipped (told c.args.s) c.requires.turned c.loop-i.i c.loop-i-test.true o k _ h (c.loop-i.invariant.2 k h)),
       )
 ]
 

@@ -1,6 +1,0 @@
-use Rattle.std.proofs.Common.{◌≡◌, ◌+◌, ◌*◌}
-use Rattle.file.specs.Layout.{strip_at}
-use Rattle.file.proofs.parts.lend_strip.Given as goal
-
-abbrev pub invariant-loop-k : goal.invariant-loop-k
-invariant-loop-k l = (l.at ≡ strip_at l.bytes l.k) × (l.sizes.at ≡ 2 + 4 * l.k) × (l.sizes.bytes.now ≡ l.bytes)

@@ -1,0 +1,102 @@
+// The questions by their numbers: of the whole file, of each strip, and of the seams.
+ghost use Rattle.file.specs.declared.fault.Layer.TheVariants.{File, Strip, Seam};
+
+use crate::fault::{Layer, Question, QuestionFault};
+
+// What is asked of the whole file.
+#[derive(Clone, Copy, PartialEq, Eq, Debug, Drop)]
+pub enum FileQuestion {
+    // How many strips there are.
+    Count = 1,
+    // The sizes of all strips are there.
+    SizesThere = 2,
+    // Sizes are within the limits.
+    SizesFit = 3,
+    // The file is as long as its sizes tell.
+    Length = 4,
+    // Borders are in range and rise.
+    Borders = 5,
+}
+
+// What is asked of each strip.
+#[derive(Clone, Copy, PartialEq, Eq, Debug, Drop)]
+pub enum StripQuestion {
+    // Names are in range.
+    Names = 6,
+    // Each name stands once, with its negation.
+    Pairs = 7,
+    // Followers are slots or none.
+    Followers = 8,
+    // Each home slot is followed once, each external one never.
+    Followed = 9,
+    // There are as many rounds as vertices.
+    Rounds = 10,
+    // Points are in range and in the strip.
+    Points = 11,
+    // Points differ.
+    NewPoints = 12,
+}
+
+// What is asked of the seams between strips.
+#[derive(Clone, Copy, PartialEq, Eq, Debug, Drop)]
+pub enum SeamQuestion {
+    // External names stand in the neighbour strip too.
+    RunsOn = 13,
+    // Home names do not.
+    StartsHere = 14,
+    // Each name has one home slot at most.
+    Homes = 15,
+    // +e lies west of -e where both are home in one strip.
+    WestFirst = 16,
+}
+
+// A fault of the whole file.
+pub type FileFault = QuestionFault<FileQuestion>;
+
+// A fault of a strip.
+pub type StripFault = QuestionFault<StripQuestion>;
+
+// A fault of the seams.
+pub type SeamFault = QuestionFault<SeamQuestion>;
+
+impl Question for FileQuestion {
+    ghost use Rattle.file.specs.Numbers.{file_number};
+
+    ghost LAYER = { File };
+
+    ghost number = { file_number };
+
+    const LAYER: Layer = Layer::File;
+
+    fn number(self) -> u8 {
+        self as u8
+    }
+}
+
+impl Question for StripQuestion {
+    ghost use Rattle.file.specs.Numbers.{strip_number};
+
+    ghost LAYER = { Strip };
+
+    ghost number = { strip_number };
+
+    const LAYER: Layer = Layer::Strip;
+
+    fn number(self) -> u8 {
+        self as u8
+    }
+}
+
+impl Question for SeamQuestion {
+    ghost use Rattle.file.specs.Numbers.{seam_number};
+
+    ghost LAYER = { Seam };
+
+    ghost number = { seam_number };
+
+    const LAYER: Layer = Layer::Seam;
+
+    fn number(self) -> u8 {
+        self as u8
+    }
+}

@@ -16,10 +16,10 @@ NotedFrom n k names slots = (h : ℤ) → h ∈ drop k names → get_or slots (p
 pub noted_none : (n k : ℕ) (names : List ℤ) (slots : List ℕ) → length names ≤ k → NotedFrom n k names slots
 noted_none n k names slots past h m = absurd (subst (λ zs. h ∈ zs) (drop_all k names past) m)
 
-pub element_in : (names : List ℤ) (k : ℕ) → k < length names → get_or names k (pos 0) ∈ names
-element_in [] k below = absurd (omega arith)
-element_in (x ∷ xs) zero below = inl refl
-element_in (x ∷ xs) (suc k) below = inr (element_in xs k (omega arith))
+pub element_in : (names : List ℤ) (k : ℕ) (d : ℤ) → k < length names → get_or names k d ∈ names
+element_in [] k d below = absurd (omega arith)
+element_in (x ∷ xs) zero d below = inl refl
+element_in (x ∷ xs) (suc k) d below = inr (element_in xs k d (omega arith))
 
 pub dropped_in : (names : List ℤ) (k : ℕ) (h : ℤ) → h ∈ drop k names → h ∈ names
 dropped_in names zero h m = m
@@ -39,7 +39,7 @@ module _ (n k : ℕ) (names : List ℤ) (slots : List ℕ) (within : (h : ℤ) �
       split = drop_more names k (pos 0) below
 
       x_within : Within n x
-      x_within = within x (element_in names k below)
+      x_within = within x (element_in names k (pos 0) below)
 
       fits : place n x < length slots
       fits = omega (arith, place_below n x x_within)

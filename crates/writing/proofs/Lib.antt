@@ -6,6 +6,7 @@ pub mod InArrays
 pub mod Rounds
 pub mod Telling
 pub mod CodeParts
+pub mod WordByWord
 pub mod CodeNames
 pub mod CodeSlots
 pub mod CodeFirsts

@@ -1,12 +1,9 @@
 -- What is gathered of one strip before it is written. Assumes nothing.
 use Rattle.std.specs.Prelude.{◌≡◌, ℕ, List, map, length, take, ℤ, slice_index}
 use Rattle.flat.specs.Orbits.{◌∈◌}
-use Rattle.chart.specs.declared.point.Point.{Point}
 use Rattle.chart.specs.Linework.{Linework}
 use Rattle.file.specs.declared.view.Sizes.{Sizes}
 use Rattle.search.specs.Marks.{place}
-use Rattle.writing.specs.declared.arrays.Axis.{Axis}
-use Rattle.writing.specs.declared.arrays.Axis.TheVariants.{X, Y}
 use Rattle.writing.specs.Written.{names_in, place_in, start_of, points_in}
 
 -- the sizes of strip i
@@ -22,8 +19,3 @@ pub record Gathered (n : ℕ) (bs : List ℤ) (l : Linework) (i : ℕ) (size : S
 -- at the place of each name of the list, where in the list it stands
 abbrev pub Slotted : ℕ → List ℤ → List ℕ → Type 0
 Slotted n names slots = (h : ℤ) → h ∈ names → slice_index slots (place n h) ≡ place_in names h
-
--- one coordinate of a point
-abbrev pub along : Axis → Point → ℤ
-along X p = p.x
-along Y p = p.y

@@ -6,9 +6,10 @@ ghost use Rattle.flat.specs.Orbits.{◌∈◌};
 ghost use Rattle.chart.specs.Linework.{lines_of};
 ghost use Rattle.search.specs.Marks.{Within, place as name_place};
 ghost use Rattle.writing.specs.Written.{u16_bytes, i16_bytes, i32_bytes, names_in, follower_slot, start_of, points_in, strip_bytes};
-ghost use Rattle.writing.specs.Gathers.{Slotted, along};
+ghost use Rattle.writing.specs.Gathers.{Slotted};
 
 use crate::gather::{gather, starts_in};
+use crate::words::write_each;
 use chart::Chart;
 use chart::point::Point;
 use file::view::NONE;
@@ -16,25 +17,13 @@ use strips::borders::Borders;
 use turning::Turning;
 use turning::limits::{LINE_NAMES, MARK_BYTES, MAX_NAME};
 
-// The two coordinates of a point.
-#[derive(Clone, Copy)]
-enum Axis {
-    X,
-    Y,
-}
+const ORIGIN: Point = Point { x: 0, y: 0 };
 
-// One coordinate of the point where a halfedge starts, or 0 where it starts nowhere.
-fn coordinate<C: Chart>(chart: &C, h: i16, axis: Axis) -> i32
-    ensures { result ≡ along axis (start_of (lines_of C.Turning.turn C.Chart.points chart.now) h) }
+// The point where a halfedge starts, or the origin where it starts nowhere.
+fn start_of<C: Chart>(chart: &C, h: i16) -> Point
+    ensures { result ≡ start_of (lines_of C.Turning.turn C.Chart.points chart.now) h }
 {
-    let p = match chart.point(h) {
-        None => Point { x: 0, y: 0 },
-        Some(p) => p,
-    };
-    match axis {
-        Axis::X => p.x,
-        Axis::Y => p.y,
-    }
+    chart.point(h).unwrap_or(ORIGIN)
 }
 
 // Where the slot of a name is noted.
@@ -77,10 +66,11 @@ fn write_names(part: &mut [u8], names: &[i16])
     requires { length part.old ≡ 2 * length names.now }
     ensures { part.new ≡ flat_map i16_bytes names.now }
 {
-    for k in 0..names.len() {
-        let bytes = names[k].to_le_bytes();
-        part[2 * k..2 * k + 2].copy_from_slice(&bytes);
-    }
+    write_each(part, names, 2, |h: i16|
+        ensures { result ≡ i16_bytes h }
+    {
+        h.to_le_bytes()
+    });
 }
 
 // Writes the slot that follows each name's, two bytes each.
@@ -97,21 +87,14 @@ fn write_followers<C: Chart>(
     requires slots { Slotted max_edge names.now slots.now }
     ensures { part.new ≡ flat_map (λ h. u16_bytes (follower_slot max_edge borders.now.items (lines_of C.Turning.turn C.Chart.points chart.now) strip h)) names.now }
 {
-    for k in 0..names.len() {
-        let bytes = follower_slot(chart, borders, strip, names[k], slots).to_le_bytes();
-        part[2 * k..2 * k + 2].copy_from_slice(&bytes);
-    }
-}
-
-// Writes one coordinate of each vertex, four bytes each; a vertex is told by a name that starts there.
-fn write_coordinates<C: Chart>(part: &mut [u8], chart: &C, firsts: &[i16], axis: Axis)
-    requires { length part.old ≡ 4 * length firsts.now }
-    ensures { part.new ≡ flat_map (λ h. i32_bytes (along axis (start_of (lines_of C.Turning.turn C.Chart.points chart.now) h))) firsts.now }
-{
-    for k in 0..firsts.len() {
-        let bytes = coordinate(chart, firsts[k], axis).to_le_bytes();
-        part[4 * k..4 * k + 4].copy_from_slice(&bytes);
-    }
+    write_each(part, names, 2, |h: i16|
+        requires slotted { Slotted max_edge (names_in max_edge borders.now.items (lines_of C.Turning.turn C.Chart.points chart.now) strip) slots.now }
+        requires long { length slots.now ≡ marks_for max_edge }
+        requires held { (C.Turning.turn chart.now).held h ≡ true }
+        ensures { result ≡ u16_bytes (follower_slot max_edge borders.entry.now.items (lines_of C.Turning.turn C.Chart.points chart.entry.now) strip h) }
+    {
+        follower_slot(chart, borders, strip, h, slots).to_le_bytes()
+    });
 }
 
 // Writes the arrays of a strip with these names, and with a vertex where each of the first ones starts.
@@ -144,8 +127,16 @@ fn write_arrays<C: Chart>(
         names,
         &slots,
     );
-    write_coordinates(&mut part[xs..ys], chart, firsts, Axis::X);
-    write_coordinates(&mut part[ys..end], chart, firsts, Axis::Y);
+    write_each(&mut part[xs..ys], firsts, 4, |h: i16|
+        ensures { result ≡ i32_bytes (start_of (lines_of C.Turning.turn C.Chart.points chart.entry.now) h).x }
+    {
+        start_of(chart, h).x.to_le_bytes()
+    });
+    write_each(&mut part[ys..end], firsts, 4, |h: i16|
+        ensures { result ≡ i32_bytes (start_of (lines_of C.Turning.turn C.Chart.points chart.entry.now) h).y }
+    {
+        start_of(chart, h).y.to_le_bytes()
+    });
 }
 
 // Writes the arrays of one strip.

@@ -71,8 +71,7 @@ fn collect_firsts<C: Chart>(
 {
     chart.placed();
     let mut count: u16 = 0;
-    for k in 0..names.len() {
-        let h = names[k];
+    for &h in names {
         if starts_in(chart, borders, strip, h) && !is_marked(marks, h) {
             mark_round(chart, h, marks);
             firsts[count as usize] = h;

@@ -4,4 +4,5 @@
 mod arrays;
 mod gather;
 pub mod theorems;
+mod words;
 pub mod write;

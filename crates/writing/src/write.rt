@@ -13,9 +13,10 @@ ghost use Rattle.writing.specs.Lays.{all_sizes, sizes_bytes, head_bytes, body_by
 
 use crate::arrays::write_strip;
 use crate::gather::measure;
+use crate::words::write_each;
 use chart::Chart;
 use file::view::Sizes;
-use strips::borders::{Borders, border, strip_count};
+use strips::borders::{Borders, strip_count};
 use strips::sheet::Sheet;
 use turning::Turning;
 use turning::limits::MAX_STRIPS;
@@ -42,11 +43,13 @@ fn write_sizes(part: &mut [u8], sizes: &[Sizes])
     requires { length part.old ≡ 4 * length sizes.now }
     ensures { part.new ≡ flat_map sizes_bytes sizes.now }
 {
-    for k in 0..sizes.len() {
-        let v = sizes[k].vertices.to_le_bytes();
-        let s = sizes[k].slots.to_le_bytes();
-        part[4 * k..4 * k + 4].copy_from_slice(&[v[0], v[1], s[0], s[1]]);
-    }
+    write_each(part, sizes, 4, |size: Sizes|
+        ensures { result ≡ sizes_bytes size }
+    {
+        let [a, b] = size.vertices.to_le_bytes();
+        let [c, d] = size.slots.to_le_bytes();
+        [a, b, c, d]
+    });
 }
 
 // Writes the borders, four bytes each.
@@ -54,11 +57,11 @@ fn write_borders(part: &mut [u8], borders: &Borders)
     requires { length part.old ≡ 4 * length borders.now.items }
     ensures { part.new ≡ flat_map i32_bytes borders.now.items }
 {
-    for k in 0..strip_count(borders) - 1 {
-        let at = 4 * k as usize;
-        let bytes = border(borders, k).unwrap_or(0).to_le_bytes();
-        part[at..at + 4].copy_from_slice(&bytes);
-    }
+    write_each(part, borders.as_slice(), 4, |x: i32|
+        ensures { result ≡ i32_bytes x }
+    {
+        x.to_le_bytes()
+    });
 }
 
 // Writes what stands before the strips.
@@ -82,8 +85,8 @@ fn write_strips<C: Chart>(part: &mut [u8], chart: &C, borders: &Borders, sizes: 
     ensures { part.new ≡ body_bytes max_edge borders.now.items (lines_of C.Turning.turn C.Chart.points chart.now) }
 {
     let mut at = 0;
-    for j in 0..sizes.len() {
-        let end = at + sizes[j].bytes();
+    for (j, own) in sizes.iter().enumerate() {
+        let end = at + own.bytes();
         write_strip(&mut part[at..end], chart, borders, j as u16 + 1);
         at = end;
     }

@@ -16,7 +16,7 @@ place-at-requires c =
     let f : SFits w16 z = search rules in
     let last = c.loop-k.auto.k in
     let below : k - 1 < length c.args.names.now = omega (arith, c.loop-k-test.true) in
-    subst (Within max_edge) (sym (to_z-of_z w16 z f)) (c.requires.within z (element_in c.args.names.now (k - 1) below))
+    subst (Within max_edge) (sym (to_z-of_z w16 z f)) (c.requires.within z (element_in c.args.names.now (k - 1) (pos 0) below))
 
 pub bounds-slots-at : goal.bounds-slots-at
 bounds-slots-at c =
@@ -25,7 +25,7 @@ bounds-slots-at c =
     let f : SFits w16 z = search rules in
     let last = c.loop-k.auto.k in
     let below : k - 1 < length c.args.names.now = omega (arith, c.loop-k-test.true) in
-    let in_range = place_below max_edge z (c.requires.within z (element_in c.args.names.now (k - 1) below)) in
+    let in_range = place_below max_edge z (c.requires.within z (element_in c.args.names.now (k - 1) (pos 0) below)) in
     let is : c.place-at.result ≡ place max_edge z = c.place-at.ensures ∙ ap (place max_edge) (to_z-of_z w16 z f) in
     omega (arith, c.loop-k.auto.slots, c.requires.long.1)
 

@@ -7,6 +7,7 @@ use Rattle.writing.specs.Written.{u16_bytes, i16_bytes, i32_bytes, follower_slot
 use Rattle.writing.proofs.CodeParts.{four_parts}
 use Rattle.writing.proofs.CodeGather.{length_joined, arrays_are}
 use Rattle.writing.proofs.CodeNames.{in_strip_within}
+use Rattle.writing.proofs.WordByWord.{each_is}
 use Rattle.writing.proofs.arrays.write_arrays.Goals as goal
 
 pub note_slots-requires : goal.note_slots-requires
@@ -25,13 +26,13 @@ returns g c =
     let firsts = c.args.firsts.now in
     let a = c.write_names.new.part in
     let b = c.write_followers.new.part in
-    let x = c.write_coordinates.new.part in
-    let y = c.write_coordinates-2.new.part in
+    let x = c.write_each.new.part in
+    let y = c.write_each-2.new.part in
     let follower : ℤ → List ℕ = λ h. u16_bytes (follower_slot max_edge bs l c.args.strip h) in
     let ea : a ≡ flat_map i16_bytes names = c.write_names.ensures in
     let eb : b ≡ flat_map follower names = c.write_followers.ensures in
-    let ex : x ≡ flat_map (λ h. i32_bytes (start_of l h).x) firsts = c.write_coordinates.ensures in
-    let ey : y ≡ flat_map (λ h. i32_bytes (start_of l h).y) firsts = c.write_coordinates-2.ensures in
+    let ex : x ≡ flat_map (λ h. i32_bytes (start_of l h).x) firsts = each_is _ (λ h. i32_bytes (start_of l h).x) firsts x (λ k d lt word (w, (own, e)). e ∙ own) c.write_each.ensures in
+    let ey : y ≡ flat_map (λ h. i32_bytes (start_of l h).y) firsts = each_is _ (λ h. i32_bytes (start_of l h).y) firsts y (λ k d lt word (w, (own, e)). e ∙ own) c.write_each-2.ensures in
     four_parts c.args.part.now a b x y (length names) (length firsts) c.requires.long
     (ap length ea ∙ length_joined i16_bytes 2 (λ _. refl) names) (ap length eb ∙ length_joined follower 2 (λ _. refl) names)
     (ap length ex ∙ length_joined (λ h. i32_bytes (start_of l h).x) 4 (λ _. refl) firsts) (ap length ey ∙ length_joined (λ h. i32_bytes (start_of l h).y) 4 (λ _. refl) firsts)

@@ -11,8 +11,8 @@ use Rattle.writing.proofs.CodeFirsts.{Firsts, firsts_none, firsts_past, firsts_o
 use Rattle.writing.proofs.gather.collect_firsts.Goals as goal
 use Rattle.writing.proofs.gather.collect_firsts.Goals.{then-starts_in+then-not-is_marked, else-starts_in, else-starts_in-via-then-starts_in+else-not-is_marked, else-starts_in-via-else-starts_in}
 
-pub loop-k-init : goal.loop-k-init
-loop-k-init g c =
+pub loop-h-init : goal.loop-h-init
+loop-h-init g c =
     let l = lines_of g.C.Turning.turn g.C.Chart.points c.args.chart.now in
     firsts_none max_edge l (g.C.Turning.lawful c.args.chart.now) c.placed.ensures c.args.borders.now.items c.args.strip c.args.names.now c.args.marks.now c.args.firsts.now c.requires.marks.1
 
@@ -20,19 +20,19 @@ pub is_marked-requires : goal.is_marked-requires
 is_marked-requires g c =
     let l = lines_of g.C.Turning.turn g.C.Chart.points c.args.chart.now in
     let names = c.args.names.now in
-    let z = get_or names c.loop-k.k (pos 0) in
+    let z = get_or names c.loop-h.h-index (pos 0) in
     let f : SFits w16 z = search rules in
-    let own : z ∈ names_in max_edge c.args.borders.now.items l c.args.strip = subst (λ zs. z ∈ zs) c.requires.names (element_in names c.loop-k.k c.loop-k-test.true) in
-    (c.loop-k.auto.marks ∙ c.requires.marks.0, subst (Within max_edge) (sym (to_z-of_z w16 z f)) (in_strip_within max_edge _ l (g.C.Turning.lawful c.args.chart.now) _ z own))
+    let own : z ∈ names_in max_edge c.args.borders.now.items l c.args.strip = subst (λ zs. z ∈ zs) c.requires.names (element_in names c.loop-h.h-index (pos 0) c.loop-h-test.true) in
+    (c.loop-h.auto.marks ∙ c.requires.marks.0, subst (Within max_edge) (sym (to_z-of_z w16 z f)) (in_strip_within max_edge _ l (g.C.Turning.lawful c.args.chart.now) _ z own))
 
 pub mark_round-requires : goal.mark_round-requires
 mark_round-requires g c =
     let l = lines_of g.C.Turning.turn g.C.Chart.points c.args.chart.now in
     let names = c.args.names.now in
-    let z = get_or names c.loop-k.k (pos 0) in
+    let z = get_or names c.loop-h.h-index (pos 0) in
     let f : SFits w16 z = search rules in
-    let own : z ∈ names_in max_edge c.args.borders.now.items l c.args.strip = subst (λ zs. z ∈ zs) c.requires.names (element_in names c.loop-k.k c.loop-k-test.true) in
-    (c.loop-k.auto.marks ∙ c.requires.marks.0, ap l.turn.held (to_z-of_z w16 z f) ∙ in_strip_held max_edge _ l (g.C.Turning.lawful c.args.chart.now) _ z own)
+    let own : z ∈ names_in max_edge c.args.borders.now.items l c.args.strip = subst (λ zs. z ∈ zs) c.requires.names (element_in names c.loop-h.h-index (pos 0) c.loop-h-test.true) in
+    (c.loop-h.auto.marks ∙ c.requires.marks.0, ap l.turn.held (to_z-of_z w16 z f) ∙ in_strip_held max_edge _ l (g.C.Turning.lawful c.args.chart.now) _ z own)
 
 -- the lists as they are at the end of a turn
 alike : (l : Linework) (bs : List ℤ) (i : ℕ) (names : List ℤ) (k : ℕ) {m m' : List ℕ} {zs zs' : List ℤ} {count count' : ℕ} → m ≡ m' → zs ≡ zs' → count ≡ count'
@@ -40,48 +40,48 @@ alike : (l : Linework) (bs : List ℤ) (i : ℕ) (names : List ℤ) (k : ℕ) {m
 alike l bs i names k {m = m} {zs = zs} {zs' = zs'} {count' = count'} a b d f =
     subst (λ x. Firsts max_edge l bs i names k m zs x) (sym d) (subst (λ x. Firsts max_edge l bs i names k m x count') (sym b) (subst (λ x. Firsts max_edge l bs i names k x zs' count') (sym a) f))
 
-pub loop-k-preserved : goal.loop-k-preserved
-loop-k-preserved g c =
+pub loop-h-preserved : goal.loop-h-preserved
+loop-h-preserved g c =
     let l = lines_of g.C.Turning.turn g.C.Chart.points c.args.chart.now in
     let bs = c.args.borders.now.items in
     let law = g.C.Turning.lawful c.args.chart.now in
     let placed = c.placed.ensures in
     let i = c.args.strip in
     let names = c.args.names.now in
-    let k = c.loop-k.k in
-    let below = c.loop-k-test.true in
+    let k = c.loop-h.h-index in
+    let below = c.loop-h-test.true in
     let z = get_or names k (pos 0) in
     let f : SFits w16 z = search rules in
-    let own : z ∈ names_in max_edge bs l i = subst (λ zs. z ∈ zs) c.requires.names (element_in names k below) in
+    let own : z ∈ names_in max_edge bs l i = subst (λ zs. z ∈ zs) c.requires.names (element_in names k (pos 0) below) in
     let held : l.turn.held z ≡ true = in_strip_held max_edge bs l law i z own in
     let back = to_z-of_z w16 z f in
     let starts : c.starts_in.result ≡ starts_in bs l i z = c.starts_in.ensures ∙ ap (starts_in bs l i) back in
-    let few = c.loop-k.invariant.few in
-    let room : c.loop-k.count < length c.loop-k.firsts = omega (arith, c.loop-k.auto.firsts, c.requires.firsts.0, c.requires.firsts.1) in
+    let few = c.loop-h.invariant.few in
+    let room : c.loop-h.count < length c.loop-h.firsts = omega (arith, c.loop-h.auto.firsts, c.requires.firsts.0, c.requires.firsts.1) in
     elim c.if-starts_in.branch [
       | then-starts_in+then-not-is_marked w ↦
-          alike l bs i names (k + 1) w.marks-is (w.firsts-is ∙ ap (set c.loop-k.firsts c.loop-k.count) back) w.count-is
-          (firsts_new max_edge l law placed bs i names k c.loop-k.marks c.loop-k.firsts c.loop-k.count below c.loop-k.invariant held (sym starts ∙ w.if-starts_in.true)
-          (ap (marked max_edge c.loop-k.marks) (sym back) ∙ sym w.if-not-is_marked.ensures) room w.mark_round.new.marks
-          (subst (λ y. Spreads max_edge l.turn (l.turn.follower ∷ []) y c.loop-k.marks w.mark_round.new.marks) back w.mark_round.ensures))
+          alike l bs i names (k + 1) w.marks-is (w.firsts-is ∙ ap (set c.loop-h.firsts c.loop-h.count) back) w.count-is
+          (firsts_new max_edge l law placed bs i names k c.loop-h.marks c.loop-h.firsts c.loop-h.count below c.loop-h.invariant held (sym starts ∙ w.if-starts_in.true)
+          (ap (marked max_edge c.loop-h.marks) (sym back) ∙ sym w.if-not-is_marked.ensures) room w.mark_round.new.marks
+          (subst (λ y. Spreads max_edge l.turn (l.turn.follower ∷ []) y c.loop-h.marks w.mark_round.new.marks) back w.mark_round.ensures))
       | else-starts_in w ↦
           alike l bs i names (k + 1) w.marks-is w.firsts-is w.count-is
           (elim w.else-starts_in.branch [
             | else-starts_in-via-then-starts_in+else-not-is_marked v ↦
-                firsts_old max_edge l law placed bs i names k c.loop-k.marks c.loop-k.firsts c.loop-k.count below c.loop-k.invariant held (sym starts ∙ v.if-starts_in.true)
-                (ap (marked max_edge c.loop-k.marks) (sym back) ∙ sym v.if-not-is_marked.ensures)
+                firsts_old max_edge l law placed bs i names k c.loop-h.marks c.loop-h.firsts c.loop-h.count below c.loop-h.invariant held (sym starts ∙ v.if-starts_in.true)
+                (ap (marked max_edge c.loop-h.marks) (sym back) ∙ sym v.if-not-is_marked.ensures)
             | else-starts_in-via-else-starts_in v ↦
-                firsts_past max_edge l law placed bs i names k c.loop-k.marks c.loop-k.firsts c.loop-k.count below c.loop-k.invariant (sym starts ∙ v.if-starts_in.false)
+                firsts_past max_edge l law placed bs i names k c.loop-h.marks c.loop-h.firsts c.loop-h.count below c.loop-h.invariant (sym starts ∙ v.if-starts_in.false)
           ])
     ]
 
 pub returns : goal.returns
 returns g c =
     let l = lines_of g.C.Turning.turn g.C.Chart.points c.args.chart.now in
-    let past : length c.args.names.now ≤ c.loop-k.k = c.loop-k-test.false in
-    let last = c.loop-k.auto.k-end in
-    let few = c.loop-k.invariant.few in
+    let past : length c.args.names.now ≤ c.loop-h.h-index = c.loop-h-test.false in
+    let last = c.loop-h.auto.h-index-end in
+    let few = c.loop-h.invariant.few in
     record {
-      started = firsts_all max_edge l (g.C.Turning.lawful c.args.chart.now) c.placed.ensures c.args.borders.now.items c.args.strip c.args.names.now c.loop-k.k c.loop-k.marks c.loop-k.firsts c.loop-k.count past c.loop-k.invariant c.requires.names;
+      started = firsts_all max_edge l (g.C.Turning.lawful c.args.chart.now) c.placed.ensures c.args.borders.now.items c.args.strip c.args.names.now c.loop-h.h-index c.loop-h.marks c.loop-h.firsts c.loop-h.count past c.loop-h.invariant c.requires.names;
       few = omega arith;
     }

@@ -10,7 +10,7 @@ pub ask_seams-requires : goal.ask_seams-requires
 ask_seams-requires c =
     let shape = c.in_ok-count.ensures.shape in
     let n = ok_none (strips_verdict c.args.bytes.now) _ _ c.in_ok-ask_strips.ensures in
-    (shape, (judged c.args.bytes.now c.in_ok-count.count shape.count n, (search rules, c.requires.1)))
+    (shape, (judged c.args.bytes.now c.in_ok-count.count shape.count n, (search rules, c.told-line)))
 
 pub returns-in_err-count : goal.returns-in_err-count
 unfolding shape_verdict

@@ -1,5 +1,5 @@
 // What the edits ask, and the ends that they hang an edge between.
-ghost use Rattle.std.specs.Prelude.{◌≡◌, Bool, true, false, not, ◌&&◌, ℤ, if◌then◌else◌, Ok, Err};
+ghost use Rattle.std.specs.Prelude.{◌≡◌};
 ghost use Rattle.turning.specs.Limits.{max_edge};
 ghost use Rattle.chart.specs.Linework.{lines_of};
 ghost use Rattle.edits.specs.Edits.{free_point, inside, new_end, after as after_corner};
@@ -8,14 +8,6 @@ ghost use Rattle.edits.specs.Asked.{Started};
 use chart::Chart;
 use chart::asks::{east_end, west_end};
 use chart::point::{End, Point, is_told_west};
-use turning::refusal::Refusal;
-
-// Done, or refused for the one reason that is left.
-pub(crate) fn said(done: bool, no: Refusal) -> Result<(), Refusal>
-    ensures { result ≡ (if done then Ok tt else Err no) }
-{
-    if done { Ok(()) } else { Err(no) }
-}
 
 // The end of an edge at a new point.
 pub(crate) fn new_end(p: Point) -> End

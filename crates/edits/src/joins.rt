@@ -1,16 +1,16 @@
 // A join whose buffers have just the lengths that a search needs.
 ghost use Rattle.std.specs.Prelude.{◌≡◌, true, [], length, replicate, ℤ, pos};
-ghost use Rattle.turning.specs.Limits.{max_edge, marks_for, line_for};
+ghost use Rattle.turning.specs.Limits.{max_edge};
 ghost use Rattle.turning.specs.Counts.{same_loop};
 ghost use Rattle.search.specs.Marks.{Clean};
 ghost use Rattle.chart.specs.Linework.{lines_of};
 ghost use Rattle.chart.specs.Stores.{meant};
 ghost use Rattle.edits.specs.Edits.{joins, made, may_join, join_questions, Settled};
 
-use crate::asks::{after, said, start_of};
+use crate::asks::{after, start_of};
 use chart::Store;
 use chart::asks::{holds_edge, is_number};
-use search::marks::{Line, Marks};
+use search::marks::{Lent, Line, Marks};
 use search::pieces::is_joined;
 use search::walk::steps;
 use turning::refusal::Refusal;
@@ -28,8 +28,10 @@ fn is_on_loop<T: Turning>(t: &T, c: i16, d: i16) -> bool
 }
 
 // Are the corners on one loop, or in different pieces? The marks are lent clean.
-fn may_join<T: Turning>(t: &T, c: i16, d: i16, marks: &mut [u8], line: &mut [i16]) -> bool
-    requires { (length marks.old ≡ marks_for max_edge) × ((length line.old ≡ line_for max_edge) × ((Clean marks.old) × (((T.Turning.turn t.now).held c ≡ true) × ((T.Turning.turn t.now).held d ≡ true)))) }
+fn may_join<T: Turning>(t: &T, c: i16, d: i16, marks: &mut Marks, line: &mut Line) -> bool
+    requires clean { Clean marks.old }
+    requires first { (T.Turning.turn t.now).held c ≡ true }
+    requires second { (T.Turning.turn t.now).held d ≡ true }
     ensures { result ≡ may_join max_edge (T.Turning.turn t.now) c d }
 {
     is_on_loop(t, c, d) || !is_joined(t, c, d, marks, line)
@@ -40,17 +42,16 @@ pub(crate) fn join_within<S: Store>(
     edge: u16,
     c: i16,
     d: i16,
-    marks: &mut [u8],
-    line: &mut [i16],
+    marks: &mut Marks,
+    line: &mut Line,
 ) -> Result<(), Refusal>
-    requires { (length marks.old ≡ marks_for max_edge) × (length line.old ≡ line_for max_edge) }
     ensures done { Settled (join_questions max_edge (meant S.Turning.turn S.Chart.points S.Store.frame S.Store.fits store.old) edge c d) (made (joins edge c d [] []) (lines_of S.Turning.turn S.Chart.points store.old)) (meant S.Turning.turn S.Chart.points S.Store.frame S.Store.fits store.old) result (meant S.Turning.turn S.Chart.points S.Store.frame S.Store.fits store.new) }
     ensures zero { marks.new ≡ replicate (length marks.old) 0 }
     ensures empty { line.new ≡ replicate (length line.old) (pos 0) }
 {
     marks.fill(0);
-    let lent = Marks { bytes: marks };
-    let waiting = Line { names: line };
+    let lent = Lent { at: marks };
+    let waiting = Lent { at: line };
     if !is_number(edge) {
         return Err(Refusal::NumberOutOfRange);
     }
@@ -66,8 +67,9 @@ pub(crate) fn join_within<S: Store>(
     if a.is_same(b) {
         return Err(Refusal::SameEnds);
     }
-    if !may_join(store, c, d, lent.bytes, waiting.names) {
+    if !may_join(store, c, d, lent.at, waiting.at) {
         return Err(Refusal::LoopsOfOnePiece);
     }
-    said(store.hang(edge, after(a, c), after(b, d)), Refusal::NoRoom)
+    let done = store.hang(edge, after(a, c), after(b, d));
+    done.then_some(()).ok_or(Refusal::NoRoom)
 }

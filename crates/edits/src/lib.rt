@@ -8,7 +8,7 @@ ghost use Rattle.chart.specs.Stores.{meant};
 ghost use Rattle.search.specs.Buffers.{enough, given_back};
 ghost use Rattle.edits.specs.Edits.{starts, sprouts, joins, splits, removes, Done, KeepsFlat, Judged};
 
-use asks::{after, is_free, is_inside, new_end, said, start_of};
+use asks::{after, is_free, is_inside, new_end, start_of};
 use chart::Store;
 use chart::asks::{holds_edge, is_number};
 use chart::point::Point;
@@ -37,7 +37,8 @@ pub fn start<S: Store>(store: &mut S, edge: u16, p: Point, q: Point) -> Result<(
     if p.is_same(q) {
         return Err(Refusal::SameEnds);
     }
-    said(store.hang(edge, new_end(p), new_end(q)), Refusal::NoRoom)
+    let done = store.hang(edge, new_end(p), new_end(q));
+    done.then_some(()).ok_or(Refusal::NoRoom)
 }
 
 // A new edge from the start of the corner, directly after it, to a new point.
@@ -58,10 +59,8 @@ pub fn sprout<S: Store>(store: &mut S, edge: u16, corner: i16, p: Point) -> Resu
     if !is_free(store, p) {
         return Err(Refusal::PointTaken);
     }
-    said(
-        store.hang(edge, after(at, corner), new_end(p)),
-        Refusal::NoRoom,
-    )
+    let done = store.hang(edge, after(at, corner), new_end(p));
+    done.then_some(()).ok_or(Refusal::NoRoom)
 }
 
 // A new edge between the starts of the corners c and d, directly after each. The lent buffers come back zero over the lengths that a search needs, unless they are refused as too short.
@@ -80,17 +79,14 @@ pub fn join<S: Store>(
     ensures empty { line.new ≡ given_back (enough max_edge marks.old line.old) (line_for max_edge) (pos 0) line.old }
 {
     store.placed();
-    if marks.len() < MARK_BYTES || line.len() < LINE_NAMES {
-        return Err(Refusal::ShortBuffers);
-    }
-    join_within(
-        store,
-        edge,
-        c,
-        d,
-        &mut marks[0..MARK_BYTES],
-        &mut line[0..LINE_NAMES],
-    )
+    let short = Refusal::ShortBuffers;
+    let Some(marks) = marks.first_chunk_mut::<MARK_BYTES>() else {
+        return Err(short);
+    };
+    let Some(line) = line.first_chunk_mut::<LINE_NAMES>() else {
+        return Err(short);
+    };
+    join_within(store, edge, c, d, marks, line)
 }
 
 // Cleaves an edge at a new point: the western part keeps its number, the eastern part is a new edge.
@@ -114,7 +110,8 @@ pub fn split<S: Store>(store: &mut S, edge: u16, east: u16, p: Point) -> Result<
     if !is_inside(store, edge, p) {
         return Err(Refusal::NotInside);
     }
-    said(store.cleave(edge, east, p), Refusal::NoRoom)
+    let done = store.cleave(edge, east, p);
+    done.then_some(()).ok_or(Refusal::NoRoom)
 }
 
 // Lifts an edge.
@@ -123,5 +120,6 @@ pub fn remove<S: Store>(store: &mut S, edge: u16) -> Result<(), Refusal>
     ensures flat { KeepsFlat max_edge (meant S.Turning.turn S.Chart.points S.Store.frame S.Store.fits store.old) (meant S.Turning.turn S.Chart.points S.Store.frame S.Store.fits store.new) }
 {
     store.placed();
-    said(store.lift(edge), Refusal::NotThere)
+    let done = store.lift(edge);
+    done.then_some(()).ok_or(Refusal::NotThere)
 }

@@ -12,16 +12,13 @@ ghost use Rattle.judge.specs.Judging.{verdict_by};
 use file::fault::{Fault, Layer};
 use file::whole::ask_file;
 use seam_questions::asked::ask_seams;
-use search::marks::{Line, Marks};
+use search::marks::{Lent, Line, Marks};
 use strip_questions::asked::ask_strips;
 use turning::limits::{LINE_NAMES, MARK_BYTES};
 
-fn ask(bytes: &[u8], marks: &mut [u8], line: &mut [i16]) -> Result<(), Fault>
-    requires { (length marks.old ≡ marks_for max_edge) × (length line.old ≡ line_for max_edge) }
+fn ask(bytes: &[u8], marks: &mut Marks, line: &mut Line) -> Result<(), Fault>
     ensures { result ≡ answered (shape_verdict bytes.now) tt }
 {
-    let marks = marks.as_mut_array::<MARK_BYTES>().unwrap();
-    let line = line.as_mut_array::<LINE_NAMES>().unwrap();
     let file = ask_file(bytes)?;
     let judged = ask_strips(file, marks)?;
     ask_seams(judged, marks, line)?;
@@ -29,15 +26,14 @@ fn ask(bytes: &[u8], marks: &mut [u8], line: &mut [i16]) -> Result<(), Fault>
 }
 
 // The same, over buffers of the right lengths, which the guards clear on every way out.
-fn judge_within(bytes: &[u8], marks: &mut [u8], line: &mut [i16]) -> Result<(), Fault>
-    requires { (length marks.old ≡ marks_for max_edge) × (length line.old ≡ line_for max_edge) }
+fn judge_within(bytes: &[u8], marks: &mut Marks, line: &mut Line) -> Result<(), Fault>
     ensures answer { result ≡ answered (shape_verdict bytes.now) tt }
     ensures zero { marks.new ≡ replicate (length marks.old) 0 }
     ensures empty { line.new ≡ replicate (length line.old) (pos 0) }
 {
-    let lent = Marks { bytes: marks };
-    let waiting = Line { names: line };
-    ask(bytes, lent.bytes, waiting.names)
+    let lent = Lent { at: marks };
+    let waiting = Lent { at: line };
+    ask(bytes, lent.at, waiting.at)
 }
 
 // Whether the file tells line work in strips: the first fault, or none.
@@ -46,15 +42,19 @@ pub fn judge(bytes: &[u8], marks: &mut [u8], line: &mut [i16]) -> Result<(), Fau
     ensures zero { marks.new ≡ given_back (enough max_edge marks.old line.old) (marks_for max_edge) 0 marks.old }
     ensures empty { line.new ≡ given_back (enough max_edge marks.old line.old) (line_for max_edge) (pos 0) line.old }
 {
-    if marks.len() < MARK_BYTES || line.len() < LINE_NAMES {
-        return Err(Fault {
-            layer: Layer::Call,
-            number: 20,
-            strip: 0,
-            place: 0,
-        });
-    }
-    judge_within(bytes, &mut marks[0..MARK_BYTES], &mut line[0..LINE_NAMES])
+    let short = Fault {
+        layer: Layer::Call,
+        number: 20,
+        strip: 0,
+        place: 0,
+    };
+    let Some(marks) = marks.first_chunk_mut::<MARK_BYTES>() else {
+        return Err(short);
+    };
+    let Some(line) = line.first_chunk_mut::<LINE_NAMES>() else {
+        return Err(short);
+    };
+    judge_within(bytes, marks, line)
 }
 
 #[cfg(test)]

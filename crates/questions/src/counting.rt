@@ -10,6 +10,7 @@ ghost use Rattle.questions.specs.Counting.{counted};
 
 use crate::Counts;
 use search::edges::count_edges;
+use search::marks::{Line, Marks};
 use search::pieces::count_pieces;
 use search::rounds::count_rounds;
 use turning::limits::{LINE_NAMES, MARK_BYTES};
@@ -21,10 +22,10 @@ pub fn rounds_of<T: Turning>(t: &T, marks: &mut [u8]) -> Result<u16, Refusal>
     ensures answer { result ≡ asked ((enough_marks max_edge marks.old, ShortBuffers) ∷ []) (rounds max_edge (T.Turning.turn t.now)) }
     ensures zero { marks.new ≡ given_back (enough_marks max_edge marks.old) (marks_for max_edge) 0 marks.old }
 {
-    if marks.len() < MARK_BYTES {
+    let Some(part) = marks.first_chunk_mut::<MARK_BYTES>() else {
         return Err(Refusal::ShortBuffers);
-    }
-    Ok(count_rounds(t, &mut marks[0..MARK_BYTES]))
+    };
+    Ok(count_rounds(t, part))
 }
 
 // The rounds of the loop side of the loop side, read back as those of t: the turning goes in by value and comes out again.
@@ -43,8 +44,7 @@ pub fn rounds_turned_twice<T: Turning>(t: T, marks: &mut [u8]) -> (T, Result<u16
 }
 
 // The counts, over buffers of the right lengths.
-fn count_all<T: Turning>(t: &T, marks: &mut [u8], line: &mut [i16]) -> Counts
-    requires { (length marks.old ≡ marks_for max_edge) × (length line.old ≡ line_for max_edge) }
+fn count_all<T: Turning>(t: &T, marks: &mut Marks, line: &mut Line) -> Counts
     ensures count { result ≡ counted max_edge (T.Turning.turn t.now) }
     ensures zero { marks.new ≡ replicate (length marks.old) 0 }
     ensures empty { line.new ≡ replicate (length line.old) (pos 0) }
@@ -69,8 +69,11 @@ pub fn counts<T: Turning>(t: &T, marks: &mut [u8], line: &mut [i16]) -> Result<C
     ensures zero { marks.new ≡ given_back (enough max_edge marks.old line.old) (marks_for max_edge) 0 marks.old }
     ensures empty { line.new ≡ given_back (enough max_edge marks.old line.old) (line_for max_edge) (pos 0) line.old }
 {
-    if marks.len() < MARK_BYTES || line.len() < LINE_NAMES {
+    let Some(marks) = marks.first_chunk_mut::<MARK_BYTES>() else {
         return Err(Refusal::ShortBuffers);
-    }
-    Ok(count_all(t, &mut marks[0..MARK_BYTES], &mut line[0..LINE_NAMES]))
+    };
+    let Some(line) = line.first_chunk_mut::<LINE_NAMES>() else {
+        return Err(Refusal::ShortBuffers);
+    };
+    Ok(count_all(t, marks, line))
 }

@@ -2,6 +2,8 @@
 // Working buffers are lent, of any length and content. Short ones are refused and left alone; others come back zero over the lengths that a search needs, whatever the answer.
 #![tactic(auto)]
 
+ghost use Rattle.std.specs.Prelude.{◌≡◌, ◌+◌, ◌*◌, ◌==◌};
+
 pub mod counting;
 pub mod loops;
 pub mod pieces;
@@ -13,4 +15,13 @@ pub struct Counts {
     pub edges: u16,
     pub loops: u16,
     pub pieces: u16,
+}
+
+impl Counts {
+    // Is vertices + loops = edges + 2 × pieces?
+    pub fn is_flat(self) -> bool
+        ensures { result ≡ (self.vertices + self.loops == self.edges + 2 * self.pieces) }
+    {
+        self.vertices as u32 + self.loops as u32 == self.edges as u32 + 2 * self.pieces as u32
+    }
 }

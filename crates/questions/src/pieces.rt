@@ -7,7 +7,7 @@ ghost use Rattle.turning.specs.Turn.{Turn};
 ghost use Rattle.turning.specs.Counts.{same_piece};
 ghost use Rattle.search.specs.Buffers.{enough, given_back};
 
-use search::marks::{Line, Marks};
+use search::marks::{Lent, Line, Marks};
 use search::pieces::is_joined;
 use turning::Turning;
 use turning::limits::{LINE_NAMES, MARK_BYTES};
@@ -18,21 +18,20 @@ fn same_piece_within<T: Turning>(
     t: &T,
     h: i16,
     k: i16,
-    marks: &mut [u8],
-    line: &mut [i16],
+    marks: &mut Marks,
+    line: &mut Line,
 ) -> Result<bool, Refusal>
-    requires { (length marks.old ≡ marks_for max_edge) × (length line.old ≡ line_for max_edge) }
     ensures answer { result ≡ asked (there (T.Turning.turn t.now) (h ∷ (k ∷ []))) (same_piece max_edge (T.Turning.turn t.now) h k) }
     ensures zero { marks.new ≡ replicate (length marks.old) 0 }
     ensures empty { line.new ≡ replicate (length line.old) (pos 0) }
 {
     marks.fill(0);
-    let lent = Marks { bytes: marks };
-    let waiting = Line { names: line };
+    let lent = Lent { at: marks };
+    let waiting = Lent { at: line };
     if !t.holds(h) || !t.holds(k) {
         return Err(Refusal::NotThere);
     }
-    Ok(is_joined(t, h, k, lent.bytes, waiting.names))
+    Ok(is_joined(t, h, k, lent.at, waiting.at))
 }
 
 // Do edges that share vertices lead from h to k?
@@ -47,8 +46,11 @@ pub fn same_piece<T: Turning>(
     ensures zero { marks.new ≡ given_back (enough max_edge marks.old line.old) (marks_for max_edge) 0 marks.old }
     ensures empty { line.new ≡ given_back (enough max_edge marks.old line.old) (line_for max_edge) (pos 0) line.old }
 {
-    if marks.len() < MARK_BYTES || line.len() < LINE_NAMES {
+    let Some(marks) = marks.first_chunk_mut::<MARK_BYTES>() else {
         return Err(Refusal::ShortBuffers);
-    }
-    same_piece_within(t, h, k, &mut marks[0..MARK_BYTES], &mut line[0..LINE_NAMES])
+    };
+    let Some(line) = line.first_chunk_mut::<LINE_NAMES>() else {
+        return Err(Refusal::ShortBuffers);
+    };
+    same_piece_within(t, h, k, marks, line)
 }

@@ -16,7 +16,7 @@ use file::fault::{Fault, Layer};
 use judge::judge;
 use laying::lay_out;
 use questions::counting::counts;
-use search::marks::{Line, Marks};
+use search::marks::{Lent, Line, Marks};
 use strips::sheet::Sheet;
 use turning::limits::{LINE_NAMES, MARK_BYTES};
 
@@ -33,7 +33,7 @@ fn is_flat(sheet: &Sheet, marks: &mut [u8], line: &mut [i16]) -> bool
     let Ok(count) = counts(sheet, marks, line) else {
         return false;
     };
-    count.vertices as u32 + count.loops as u32 == count.edges as u32 + 2 * count.pieces as u32
+    count.is_flat()
 }
 
 // Reads into an empty sheet, over buffers of the right lengths.
@@ -75,20 +75,20 @@ fn read_into(
 fn read_within(
     sheet: &mut Sheet,
     bytes: &[u8],
-    marks: &mut [u8],
-    line: &mut [i16],
+    marks: &mut Marks,
+    line: &mut Line,
 ) -> Result<(), Fault>
-    requires buffers { (length marks.old ≡ marks_for max_edge) × (length line.old ≡ line_for max_edge) }
-    requires empty { (sheet.old.borders.items ≡ []) × (lines_in (seen sheet.old.rows.at.now) ≡ no_lines) }
+    requires uncut { sheet.old.borders.items ≡ [] }
+    requires empty { lines_in (seen sheet.old.rows.at.now) ≡ no_lines }
     ensures answer { result ≡ answered (sheet_verdict (nat_le slots (length sheet.old.rows.at.now)) bytes.now) tt }
     ensures read { Read result bytes.now sheet.new.borders.items sheet.new.rows.at.now }
     ensures length { length sheet.new.rows.at.now ≡ length sheet.old.rows.at.now }
     ensures zero { marks.new ≡ replicate (length marks.old) 0 }
     ensures blank { line.new ≡ replicate (length line.old) (pos 0) }
 {
-    let lent = Marks { bytes: marks };
-    let waiting = Line { names: line };
-    read_into(sheet, bytes, lent.bytes, waiting.names)
+    let lent = Lent { at: marks };
+    let waiting = Lent { at: line };
+    read_into(sheet, bytes, lent.at, waiting.at)
 }
 
 // The sheet that the bytes tell, whatever the sheet held before; or the first fault, and then the empty sheet of one strip.
@@ -105,15 +105,17 @@ pub fn read(
     ensures blank { line.new ≡ given_back (enough max_edge marks.old line.old) (line_for max_edge) (pos 0) line.old }
 {
     sheet.clear();
-    if marks.len() < MARK_BYTES || line.len() < LINE_NAMES {
-        return Err(Fault {
-            layer: Layer::Call,
-            number: 20,
-            strip: 0,
-            place: 0,
-        });
-    }
-    let marks = &mut marks[0..MARK_BYTES];
-    let line = &mut line[0..LINE_NAMES];
+    let short = Fault {
+        layer: Layer::Call,
+        number: 20,
+        strip: 0,
+        place: 0,
+    };
+    let Some(marks) = marks.first_chunk_mut::<MARK_BYTES>() else {
+        return Err(short);
+    };
+    let Some(line) = line.first_chunk_mut::<LINE_NAMES>() else {
+        return Err(short);
+    };
     read_within(sheet, bytes, marks, line)
 }

@@ -1,6 +1,7 @@
 -- A search through one piece: the line has the names that are reached, each once, and those before `at` have had their steps taken.
 -- Assumes nothing.
 use Rattle.std.proofs.Common.{◌≡◌, ℕ, zero, suc, ◌+◌, ◌*◌, ◌<◌, ◌≤◌, true, false, T, ◌≢◌, ◌⊎◌, ◌↔◌, List, [], ◌∷◌, length, get_or, set, ℤ, pos, neg_ℤ, sym, refl, ap, ◌∙◌, subst, inl, inr, add-one, arith, get_or-set_other, get_or-set_same}
+use Rattle.std.proofs.lemmas.List.{length-set}
 use Rattle.std.proofs.lemmas.Bool.{cases_eq, both_ways}
 use Rattle.flat.specs.Orbits.{◌∈◌, Distinct, Reach, stay, walk}
 use Rattle.flat.proofs.Basics.{pigeon, T_true, T_same}
@@ -49,6 +50,11 @@ queue_push l k x b =
     ap (queue (set l k x)) (add-one k)
     ∙ ap (λ z. z ∷ queue (set l k x) k) (get_or-set_same l k x (pos 0) b) ∙ ap (λ q. x ∷ q) (queue_set l k k x (omega arith))
 
+-- a note leaves the line as long as it was
+pub noted_wide : (n : ℕ) (x : ℤ) (m m' : List ℕ) (l l' : List ℤ) (end r : ℕ) → Noted n x m m' l l' end r → length l' ≡ length l
+noted_wide n x m m' l l' end r (inl (_, _, e, _)) = ap length e
+noted_wide n x m m' l l' end r (inr (_, _, e, _)) = ap length e ∙ length-set l end x
+
 -- marked, and not h
 unfoldable pub But : ℕ → List ℕ → ℤ → ℤ → Type 0
 But n m h z = T (marked n m z) × (¬ (z ≡ h))
@@ -83,9 +89,6 @@ module _ (n : ℕ) (t : Turn) where
       back : (z : ℤ) → t.held z ≡ true → B' z ⊎ (z ∈ queue l end) → B z ⊎ (z ∈ queue l end)
       back z e (inl p) = inl ((w z e).1 p)
       back z e (inr q) = inr q
-
-  pub clean_closed : (m : List ℕ) → Clean m → Closed n t m
-  clean_closed m c z e p = absurd (unmarked_clean n m z c p)
 
   module _ (law : Lawful n t) (h : ℤ) (eh : t.held h ≡ true) where
     -- there is room for one more
@@ -237,7 +240,7 @@ module _ (n : ℕ) (t : Turn) where
         back (inr q) x = absurd (x q)
 
     -- all have: what can be reached is marked
-    pub flood_all : (m₀ m : List ℕ) (l : List ℤ) (at end : ℕ) → Flood h (In m₀) m l at end → end ≤ at → T (marked n m h) → Closed n t m₀ → Spreads n t (piece_steps t) h m₀ m
+    pub flood_all : (m₀ m : List ℕ) (l : List ℤ) (at end : ℕ) → Flood h (In m₀) m l at end → end ≤ at → T (marked n m h) → Closed n t (piece_steps t) m₀ → Spreads n t (piece_steps t) h m₀ m
     flood_all m₀ m l at end f b first closed z k = ((λ p. there ((f.marks z k).0 p)), back)
       where
         there : T (marked n m₀ z) ⊎ (z ∈ queue l end) → T (marked n m₀ z) ⊎ Reach (piece_steps t) h z
@@ -248,7 +251,7 @@ module _ (n : ℕ) (t : Turn) where
         steps y e p = go ((f.marks y e).0 p)
           where
             go : T (marked n m₀ y) ⊎ (y ∈ queue l end) → T (marked n m (t.follower y)) × T (marked n m (neg_ℤ y))
-            go (inl q) = ((f.marks (t.follower y) (law.ahead y e)).1 (inl (closed y e q).0), (f.marks (neg_ℤ y) (law.closed y e)).1 (inl (closed y e q).1))
+            go (inl q) = ((f.marks (t.follower y) (law.ahead y e)).1 (inl (closed y _ e q (inl refl))), (f.marks (neg_ℤ y) (law.closed y e)).1 (inl (closed y _ e q (inr (inl refl)))))
             go (inr q) =
                 let r : (i : ℕ) × (i < end) × (y ≡ get_or l i (pos 0)) = queue_at l end y q in
                 let c : r.0 < end = r.1 in
@@ -263,13 +266,6 @@ module _ (n : ℕ) (t : Turn) where
         back : T (marked n m₀ z) ⊎ Reach (piece_steps t) h z → T (marked n m z)
         back (inl p) = (f.marks z k).1 (inl p)
         back (inr p) = along eh first p
-
-    pub spreads_closed : (m m' : List ℕ) → Closed n t m → Spreads n t (piece_steps t) h m m' → Closed n t m'
-    spreads_closed m m' c s z k p = go ((s z k).0 p)
-      where
-        go : T (marked n m z) ⊎ Reach (piece_steps t) h z → T (marked n m' (t.follower z)) × T (marked n m' (neg_ℤ z))
-        go (inl q) = ((s (t.follower z) (law.ahead z k)).1 (inl (c z k q).0), (s (neg_ℤ z) (law.closed z k)).1 (inl (c z k q).1))
-        go (inr q) = ((s (t.follower z) (law.ahead z k)).1 (inr (follow q (one (inl refl)))), (s (neg_ℤ z) (law.closed z k)).1 (inr (follow q (one (inr (inl refl))))))
 
     -- from clean marks, those marked are those of the piece of h
     pub clean_marks : (m m' : List ℕ) (k : ℤ) → t.held k ≡ true → Clean m → Spreads n t (piece_steps t) h m m' → marked n m' k ≡ same_piece n t h k

@@ -2,13 +2,14 @@
 -- Assumes nothing.
 use Rattle.std.proofs.Common.{◌≡◌, ℕ, zero, suc, ◌+◌, ◌*◌, ◌<◌, ◌≤◌, true, not, T, eqb, ◌⊎◌, ◌↔◌, List, [], ◌∷◌, length, get_or, set, replicate, ℤ, pos, negsuc, sym, refl, ap, ◌∙◌, subst, inl, inr, arith, get_or-set_other, get_or-set_same, w16, SFits}
 use Rattle.std.proofs.lemmas.Int.{ints}
+use Rattle.std.proofs.lemmas.List.{length-set}
 use Rattle.std.proofs.lemmas.Bool.{cases_eq}
 use Rattle.flat.specs.Orbits.{◌∈◌, Reach, iterate, trail}
 use Rattle.flat.proofs.Trails.{trail_whole}
 use Rattle.turning.specs.Limits.{max_edge}
 use Rattle.turning.specs.Turn.{Turn, Lawful}
 use Rattle.search.specs.Lengths.{Walked}
-use Rattle.search.specs.Marks.{Within, place, marked, Clean, Spreads}
+use Rattle.search.specs.Marks.{Within, place, marked, Clean, Closed, Spreads}
 use Rattle.search.proofs.Walking.{reach_times, walked_start, walked_on, walked_held}
 
 pub name_fits : (z : ℤ) → Within max_edge z → SFits w16 z
@@ -35,6 +36,9 @@ at_replicate (suc k) (suc i) = at_replicate k i
 pub unmarked_clean : (n : ℕ) (m : List ℕ) (z : ℤ) → Clean m → ¬ T (marked n m z)
 unfolding marked
 unmarked_clean n m z c = subst (λ v. ¬ T (not (eqb v 0))) (sym (ap (λ l. get_or l (place n z) 0) c ∙ at_replicate (length m) (place n z))) (λ p. p)
+
+pub clean_closed : (n : ℕ) (t : Turn) (ss : List (ℤ → ℤ)) (m : List ℕ) → Clean m → Closed n t ss m
+clean_closed n t ss m c z y e p k = absurd (unmarked_clean n m z c p)
 
 module _ (n : ℕ) (m : List ℕ) (long : length m ≡ 2 * n + 1) (x z : ℤ) (v : Within n x) (w : Within n z) where
   -- one more is marked
@@ -100,17 +104,17 @@ over_round f h x z i w back = (
 -- a walk about the round of h, x so many steps from it, with all before x marked
 pub record Rounding (n : ℕ) (t : Turn) (h x : ℤ) (i : ℕ) (m₀ m : List ℕ) : Type 0 where
   pub walk : Walked t.follower h x i
+  pub long : length m ≡ 2 * n + 1
   pub marks : (z : ℤ) → t.held z ≡ true → T (marked n m z) ↔ (T (marked n m₀ z) ⊎ Over t.follower h i z)
 
-pub rounding_none : (n : ℕ) (t : Turn) (h : ℤ) (m : List ℕ) → Rounding n t h h 0 m m
-rounding_none n t h m = record { walk = walked_start t.follower h; marks = λ z e. (inl, back z) }
+pub rounding_none : (n : ℕ) (t : Turn) (h : ℤ) (m : List ℕ) → length m ≡ 2 * n + 1 → Rounding n t h h 0 m m
+rounding_none n t h m long = record { walk = walked_start t.follower h; long = long; marks = λ z e. (inl, back z) }
   where
     back : (z : ℤ) → T (marked n m z) ⊎ Over t.follower h 0 z → T (marked n m z)
     back z (inl p) = p
     back z (inr o) = absurd (over_none t.follower h z o)
 
-module _ (n : ℕ) (t : Turn) (law : Lawful n t) (h x : ℤ) (i : ℕ) (m₀ m : List ℕ) (e : t.held h ≡ true) (long : length m ≡ 2 * n + 1)
-    (r : Rounding n t h x i m₀ m) where
+module _ (n : ℕ) (t : Turn) (law : Lawful n t) (h x : ℤ) (i : ℕ) (m₀ m : List ℕ) (e : t.held h ≡ true) (r : Rounding n t h x i m₀ m) where
   pub rounding_held : t.held x ≡ true
   rounding_held = walked_held n t law h e x i r.walk
 
@@ -119,7 +123,7 @@ module _ (n : ℕ) (t : Turn) (law : Lawful n t) (h x : ℤ) (i : ℕ) (m₀ m :
   marked_on z k = ((λ p. there (one.0 p)), back)
     where
       one : T (marked n (set m (place n x) 1) z) ↔ (T (marked n m z) ⊎ (z ≡ x))
-      one = marked_set n m long x z (held_within n t law x rounding_held) (held_within n t law z k)
+      one = marked_set n m r.long x z (held_within n t law x rounding_held) (held_within n t law z k)
 
       more : Over t.follower h (i + 1) z ↔ (Over t.follower h i z ⊎ (z ≡ x))
       more = over_more t.follower h x z i r.walk
@@ -141,7 +145,7 @@ module _ (n : ℕ) (t : Turn) (law : Lawful n t) (h x : ℤ) (i : ℕ) (m₀ m :
           go (inr q) = one.1 (inr q)
 
   pub rounding_on : ¬ (t.follower x ≡ h) → Rounding n t h (t.follower x) (i + 1) m₀ (set m (place n x) 1)
-  rounding_on d = record { walk = walked_on t.follower h x i r.walk d; marks = marked_on }
+  rounding_on d = record { walk = walked_on t.follower h x i r.walk d; long = length-set m (place n x) 1 ∙ r.long; marks = marked_on }
 
   pub rounding_back : t.follower x ≡ h → Spreads n t (t.follower ∷ []) h m₀ (set m (place n x) 1)
   rounding_back b z k = ((λ p. there ((marked_on z k).0 p)), λ p. (marked_on z k).1 (back p))

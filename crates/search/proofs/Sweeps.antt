@@ -7,11 +7,11 @@ use Rattle.flat.specs.Whole.{equal}
 use Rattle.flat.proofs.Basics.{T_true}
 use Rattle.flat.proofs.Counts.{Fair}
 use Rattle.flat.proofs.Reps.{orbits_counted}
-use Rattle.flat.proofs.Walks.{walk_back}
+use Rattle.flat.proofs.Walks.{walk_back, follow, one}
 use Rattle.flat.proofs.Whole.{equal_is}
 use Rattle.turning.specs.Turn.{Turn, Lawful}
 use Rattle.turning.specs.Counts.{holding}
-use Rattle.search.specs.Marks.{marked, Clean, Spreads, Visited}
+use Rattle.search.specs.Marks.{marked, Clean, Closed, Spreads, Visited}
 use Rattle.turning.proofs.Listed.{Named, true_T, in_holding, holding_held, held_named}
 use Rattle.search.proofs.Marking.{unmarked_clean}
 
@@ -71,6 +71,13 @@ module _ (n : ℕ) (t : Turn) (law : Lawful n t) (ss : List (ℤ → ℤ)) (fair
       from z k (y, inl q, p) = (sp z k).1 (inr (subst (λ w. Reach ss w z) q p))
       from z k (y, inr q, p) = (sp z k).1 (inl ((s.marks z k).1 (y, q, p)))
 
+  -- marks that a sweep leaves are closed
+  pub swept_closed : (m : List ℕ) (ys : List ℤ) → Swept m ys → Closed n t ss m
+  swept_closed m ys s z y e p k = (s.marks y (holding_held n t law y (fair.0 z y (in_holding n t law z e) k))).1 (more ((s.marks z e).0 p))
+    where
+      more : (x : ℤ) × (x ∈ ys) × Reach ss x z → (x : ℤ) × (x ∈ ys) × Reach ss x y
+      more (x, q, r) = (x, q, follow r (one k))
+
   swept_all : (m : List ℕ) (ys : List ℤ) → Swept m ys → ((z : ℤ) → t.held z ≡ true → T (marked n m z)) → length ys ≡ orbits equal ss (holding n t)
   swept_all m ys s all = orbits_counted equal equal_is ss (holding n t) fair ys s.there s.strange
       (λ x k. let e : t.held x ≡ true = holding_held n t law x k in
@@ -84,6 +91,9 @@ module _ (n : ℕ) (t : Turn) (law : Lawful n t) (ss : List (ℤ → ℤ)) (fair
     pub counted : count ≡ length ones
     pub few : count + 2 ≤ 2 * e
     pub done : (z : ℤ) → t.held z ≡ true → Below e z → T (marked n m z)
+
+  pub sweep_closed : (m : List ℕ) (count e : ℕ) → Sweep m count e → Closed n t ss m
+  sweep_closed m count e s = swept_closed m s.ones s.swept
 
   -- a visit: what was marked stays so, h is marked if it is held, and the count is right
   Step : (m m' : List ℕ) (ys : List ℤ) (h : ℤ) (r : ℕ) → Type 0
@@ -107,6 +117,11 @@ module _ (n : ℕ) (t : Turn) (law : Lawful n t) (ss : List (ℤ → ℤ)) (fair
 
       unmarked : ¬ T (marked n m h)
       unmarked q = both_ways (marked n m h) (not-true (marked n m h) p.1) (T_true (marked n m h) q)
+
+  -- and between the two names of an edge
+  pub visited_closed : (m m' : List ℕ) (count e r : ℕ) (h : ℤ) → Sweep m count e → Visited n t ss h m m' r → Closed n t ss m'
+  unfolding Step
+  visited_closed m m' count e r h s v = let q : Step m m' s.ones h r = step m m' s.ones h r s.swept v in swept_closed m' q.0 q.1
 
   pub sweep_none : (m : List ℕ) → Clean m → Sweep m 0 1
   sweep_none m c = record { ones = []; swept = swept_none m c; counted = refl; few = omega arith; done = λ z e b. absurd (nothing z e b) }

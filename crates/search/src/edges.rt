@@ -11,6 +11,7 @@ use turning::limits::MAX_EDGE;
 pub fn count_edges<T: Turning>(t: &T) -> u16
     ensures { result ≡ edges max_edge (T.Turning.turn t.now) }
 {
+    // The chain `(1..=MAX_EDGE).filter(..).count()` was tried: that its count is that of the numbers of the range did not close.
     let mut count = 0;
     for e in 1..=MAX_EDGE {
         if t.holds(e as i16) {

@@ -1,6 +1,7 @@
 // Inner: walks and searches over any turning. Who calls them has asked that the names are held and that the buffers are long enough.
 #![tactic(auto)]
 
+mod classes;
 pub mod edges;
 pub mod marks;
 pub mod pieces;

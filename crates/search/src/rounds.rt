@@ -1,17 +1,33 @@
-// The vertices, counted: each round is walked once, from the first of its names in number order.
-ghost use Rattle.std.specs.Prelude.{◌≡◌, true, List, [], ◌∷◌, length, replicate};
-ghost use Rattle.turning.specs.Limits.{max_edge, marks_for};
+// The vertices, counted: each round is walked once.
+ghost use Rattle.std.specs.Prelude.{◌≡◌, true, [], ◌∷◌, length, replicate};
+ghost use Rattle.turning.specs.Limits.{max_edge};
 ghost use Rattle.turning.specs.Turn.{Turn};
 ghost use Rattle.turning.specs.Counts.{rounds};
-ghost use Rattle.search.specs.Marks.{Within, Clean, Spreads, Visited};
+ghost use Rattle.turning.proofs.Tests.{follower_fair};
+ghost use Rattle.search.specs.Marks.{Spreads};
 
-use crate::marks::{Marks, is_marked, mark};
+use crate::classes::{Search, count_classes};
+use crate::marks::{Lent, Marks, mark};
 use turning::Turning;
 use turning::limits::MAX_EDGE;
 
+// A walk about one vertex, which needs no memory of its own.
+#[derive(Drop)]
+struct Walk;
+
+impl Search for Walk {
+    ghost steps = { λ t. t.follower ∷ [] };
+
+    ghost fair = { follower_fair max_edge };
+
+    fn mark_class<T: Turning>(&mut self, t: &T, h: i16, marks: &mut Marks) {
+        mark_round(t, h, marks);
+    }
+}
+
 // Marks the round of h.
-pub fn mark_round<T: Turning>(t: &T, h: i16, marks: &mut [u8])
-    requires { (length marks.old ≡ marks_for max_edge) × ((T.Turning.turn t.now).held h ≡ true) }
+pub fn mark_round<T: Turning>(t: &T, h: i16, marks: &mut Marks)
+    requires { (T.Turning.turn t.now).held h ≡ true }
     ensures { Spreads max_edge (T.Turning.turn t.now) ((T.Turning.turn t.now).follower ∷ []) h marks.old marks.new }
 {
     let mut x = h;
@@ -24,38 +40,12 @@ pub fn mark_round<T: Turning>(t: &T, h: i16, marks: &mut [u8])
     }
 }
 
-// One for a new h, whose round is marked then; otherwise nothing.
-fn visit_round<T: Turning>(t: &T, h: i16, marks: &mut [u8]) -> u16
-    requires { (length marks.old ≡ marks_for max_edge) × (Within max_edge h) }
-    ensures { Visited max_edge (T.Turning.turn t.now) ((T.Turning.turn t.now).follower ∷ []) h marks.old marks.new result }
-{
-    if !t.holds(h) || is_marked(marks, h) {
-        return 0;
-    }
-    mark_round(t, h, marks);
-    1
-}
-
-fn sweep_rounds<T: Turning>(t: &T, marks: &mut [u8]) -> u16
-    requires { (length marks.old ≡ marks_for max_edge) × (Clean marks.old) }
-    ensures { result ≡ rounds max_edge (T.Turning.turn t.now) }
-{
-    let mut count = 0;
-    for e in 1..=MAX_EDGE {
-        let h = e as i16;
-        count += visit_round(t, h, marks);
-        count += visit_round(t, -h, marks);
-    }
-    count
-}
-
 // How many vertices there are; on the loop side, how many loops.
-pub fn count_rounds<T: Turning>(t: &T, marks: &mut [u8]) -> u16
-    requires { length marks.old ≡ marks_for max_edge }
+pub fn count_rounds<T: Turning>(t: &T, marks: &mut Marks) -> u16
     ensures count { result ≡ rounds max_edge (T.Turning.turn t.now) }
     ensures zero { marks.new ≡ replicate (length marks.old) 0 }
 {
     marks.fill(0);
-    let lent = Marks { bytes: marks };
-    sweep_rounds(t, lent.bytes)
+    let lent = Lent { at: marks };
+    count_classes(t, &mut Walk, lent.at)
 }

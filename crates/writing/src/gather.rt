@@ -1,6 +1,6 @@
 // What one strip has: the names of its slots, and its vertices.
 ghost use Rattle.std.specs.Prelude.{◌≡◌, ◌≤◌, map, length, take, pos};
-ghost use Rattle.turning.specs.Limits.{max_edge, line_for, marks_for};
+ghost use Rattle.turning.specs.Limits.{max_edge, line_for};
 ghost use Rattle.chart.specs.Linework.{lines_of};
 ghost use Rattle.search.specs.Marks.{Clean};
 ghost use Rattle.strips.specs.Borders.{runs_through};
@@ -10,7 +10,7 @@ ghost use Rattle.writing.specs.Gathers.{Gathered, size_of};
 use chart::Chart;
 use chart::asks::{east_end, holds_edge, west_end};
 use file::view::Sizes;
-use search::marks::is_marked;
+use search::marks::{Marks, is_marked};
 use search::rounds::mark_round;
 use strips::borders::Borders;
 use strips::taken::strip_at;
@@ -60,11 +60,11 @@ fn collect_firsts<C: Chart>(
     borders: &Borders,
     strip: u16,
     names: &[i16],
-    marks: &mut [u8],
+    marks: &mut Marks,
     firsts: &mut [i16],
 ) -> u16
     requires names { names.now ≡ names_in max_edge borders.now.items (lines_of C.Turning.turn C.Chart.points chart.now) strip }
-    requires marks { (length marks.old ≡ marks_for max_edge) × (Clean marks.old) }
+    requires marks { Clean marks.old }
     requires firsts { (length firsts.old ≡ line_for max_edge) × (length names.now ≤ line_for max_edge) }
     ensures started { map (start_of (lines_of C.Turning.turn C.Chart.points chart.now)) (take result firsts.new) ≡ points_in max_edge borders.now.items (lines_of C.Turning.turn C.Chart.points chart.now) strip }
     ensures few { result ≤ length names.now }

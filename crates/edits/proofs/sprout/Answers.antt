@@ -1,9 +1,10 @@
-use Rattle.std.proofs.Common.{sym, subst₂, w16}
+use Rattle.std.proofs.Common.{◌≡◌, sym, subst, subst₂, w16, rules}
 use Rattle.std.proofs.lemmas.Int.{to_z-of_z}
 use Rattle.turning.specs.Limits.{max_edge}
+use Rattle.turning.specs.declared.refusal.Refusal.TheVariants.{NoRoom}
 use Rattle.chart.specs.Stores.{meant, Hangs}
 use Rattle.edits.specs.Edits.{sprouts, Done}
-use Rattle.edits.proofs.Tables.{sprout_done}
+use Rattle.edits.proofs.Tables.{said, sprout_done}
 use Rattle.edits.proofs.Keeping.{keeps_flat}
 use Rattle.edits.proofs.sprout.Goals as goal
 
@@ -12,10 +13,11 @@ returns g c =
     let m = meant g.S.Turning.turn g.S.Chart.points g.S.Store.frame g.S.Store.fits in
     let x = c.args.store.now in
     let e = sprouts c.args.edge c.args.corner c.args.p in
-    let done : Done max_edge (m x) e c.said.result (m c.hang.new.self) =
-    rw c.said.ensures
-    (sprout_done max_edge (m x) c.args.edge (sym c.if-not-is_number.ensures) (sym c.if-holds_edge.ensures) (m c.hang.new.self) c.hang.result
+    let told : c.ok_or.result ≡ said c.hang-done.result NoRoom = search rules in
+    let done : Done max_edge (m x) e c.ok_or.result (m c.hang-done.new.self) =
+    subst (λ o. Done max_edge (m x) e o (m c.hang-done.new.self)) (sym told)
+    (sprout_done max_edge (m x) c.args.edge (sym c.if-not-is_number.ensures) (sym c.if-holds_edge.ensures) (m c.hang-done.new.self) c.hang-done.result
     (g.S.Turning.lawful x) c.args.corner _ (to_z-of_z w16 c.args.corner c.ranges.corner) c.in-Some.at c.args.p c.in-Some.ensures
     (sym c.if-not-is_free.ensures)
-    (subst₂ (λ a b. Hangs max_edge (m x) c.args.edge a b c.hang.result (m c.hang.new.self)) c.after.ensures c.new_end.ensures c.hang.ensures)) in
+    (subst₂ (λ a b. Hangs max_edge (m x) c.args.edge a b c.hang-done.result (m c.hang-done.new.self)) c.after.ensures c.new_end.ensures c.hang-done.ensures)) in
     record { done = done; flat = keeps_flat max_edge (m x) (g.S.Turning.lawful x, c.placed.ensures) _ e _ done }

@@ -1,8 +1,9 @@
-use Rattle.std.proofs.Common.{sym, subst₂}
+use Rattle.std.proofs.Common.{◌≡◌, sym, subst, subst₂, rules}
 use Rattle.turning.specs.Limits.{max_edge}
+use Rattle.turning.specs.declared.refusal.Refusal.TheVariants.{NoRoom}
 use Rattle.chart.specs.Stores.{meant, Hangs}
 use Rattle.edits.specs.Edits.{starts, Done}
-use Rattle.edits.proofs.Tables.{start_done}
+use Rattle.edits.proofs.Tables.{said, start_done}
 use Rattle.edits.proofs.Keeping.{keeps_flat}
 use Rattle.edits.proofs.start.Goals as goal
 
@@ -11,9 +12,10 @@ returns g c =
     let m = meant g.S.Turning.turn g.S.Chart.points g.S.Store.frame g.S.Store.fits in
     let x = c.args.store.now in
     let e = starts c.args.edge c.args.p c.args.q in
-    let done : Done max_edge (m x) e c.said.result (m c.hang.new.self) =
-    rw c.said.ensures
-    (start_done max_edge (m x) c.args.edge (sym c.if-not-is_number.ensures) (sym c.if-holds_edge.ensures) (m c.hang.new.self) c.hang.result
+    let told : c.ok_or.result ≡ said c.hang-done.result NoRoom = search rules in
+    let done : Done max_edge (m x) e c.ok_or.result (m c.hang-done.new.self) =
+    subst (λ o. Done max_edge (m x) e o (m c.hang-done.new.self)) (sym told)
+    (start_done max_edge (m x) c.args.edge (sym c.if-not-is_number.ensures) (sym c.if-holds_edge.ensures) (m c.hang-done.new.self) c.hang-done.result
     c.args.p c.args.q (sym c.if-not-is_free.ensures) (sym c.if-not-is_free-2.ensures) (sym c.if-is_same.ensures)
-    (subst₂ (λ a b. Hangs max_edge (m x) c.args.edge a b c.hang.result (m c.hang.new.self)) c.new_end.ensures c.new_end-2.ensures c.hang.ensures)) in
+    (subst₂ (λ a b. Hangs max_edge (m x) c.args.edge a b c.hang-done.result (m c.hang-done.new.self)) c.new_end.ensures c.new_end-2.ensures c.hang-done.ensures)) in
     record { done = done; flat = keeps_flat max_edge (m x) (g.S.Turning.lawful x, c.placed.ensures) _ e _ done }

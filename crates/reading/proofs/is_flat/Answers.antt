@@ -1,4 +1,4 @@
-use Rattle.std.proofs.Common.{◌≡◌, ◌+◌, ◌*◌, true, eqb, ap, arith}
+use Rattle.std.proofs.Common.{◌≡◌, ◌+◌, ◌*◌, true, eqb, ap, ◌∙◌, arith}
 use Rattle.turning.specs.Limits.{max_edge}
 use Rattle.search.specs.Buffers.{enough}
 use Rattle.search.proofs.Buffers.{enough_both}
@@ -12,4 +12,4 @@ returns c =
     let m = c.args.marks.now in
     let l = c.args.line.now in
     let e : enough max_edge m l ≡ true = enough_both max_edge m l (omega (arith, c.requires.0)) (omega (arith, c.requires.1)) in
-    ap (λ k. eqb (k.vertices + k.loops) (k.edges + 2 * k.pieces)) (granted_is (enough max_edge m l) _ _ _ e c.in-Ok.ensures.answer)
+    c.is_flat.ensures ∙ ap (λ k. eqb (k.vertices + k.loops) (k.edges + 2 * k.pieces)) (granted_is (enough max_edge m l) _ _ _ e c.in-Ok.ensures.answer)

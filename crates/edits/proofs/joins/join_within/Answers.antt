@@ -1,34 +1,29 @@
-use Rattle.std.proofs.Common.{sym, refl, subst₂, w16, rules}
+use Rattle.std.proofs.Common.{◌≡◌, [], sym, refl, subst, subst₂, w16, rules}
 use Rattle.std.proofs.lemmas.Int.{to_z-of_z}
 use Rattle.turning.specs.Limits.{max_edge}
+use Rattle.turning.specs.declared.refusal.Refusal.TheVariants.{NoRoom}
 use Rattle.chart.specs.Stores.{meant, Hangs}
-use Rattle.edits.proofs.Tables.{join_done, join_same}
+use Rattle.edits.specs.Edits.{joins, made, join_questions, Settled}
+use Rattle.edits.proofs.Tables.{said, join_done, join_same}
 use Rattle.edits.proofs.joins.join_within.Goals as goal
 
-pub returns-then-is_same : goal.returns-then-is_same
-returns-then-is_same g c =
+pub returns-then-is_same-clause-done : goal.returns-then-is_same-clause-done
+returns-then-is_same-clause-done g c =
     let m = meant g.S.Turning.turn g.S.Chart.points g.S.Store.frame g.S.Store.fits in
     record {
-      done = record {
-        told = join_same max_edge (m c.args.store.now) c.args.edge (sym c.if-not-is_number.ensures) (sym c.if-holds_edge.ensures)
-            c.args.c c.args.d _ _ (to_z-of_z w16 c.args.c c.ranges.c) (to_z-of_z w16 c.args.d c.ranges.d) _ _
-            c.in-Some.ensures c.in-Some-start_of.ensures (sym c.if-is_same.ensures);
-        changed = refl;
-      };
-      zero = search rules;
-      empty = search rules;
+      told = join_same max_edge (m c.args.store.now) c.args.edge (sym c.if-not-is_number.ensures) (sym c.if-holds_edge.ensures)
+          c.args.c c.args.d _ _ (to_z-of_z w16 c.args.c c.ranges.c) (to_z-of_z w16 c.args.d c.ranges.d) _ _
+          c.in-Some.ensures c.in-Some-start_of.ensures (sym c.if-is_same.ensures);
+      changed = refl;
     }
 
-pub returns : goal.returns
-returns g c =
+pub returns-clause-done : goal.returns-clause-done
+returns-clause-done g c =
     let m = meant g.S.Turning.turn g.S.Chart.points g.S.Store.frame g.S.Store.fits in
     let x = c.args.store.now in
-    record {
-      done = rw c.said.ensures
-          (join_done max_edge (m x) c.args.edge (sym c.if-not-is_number.ensures) (sym c.if-holds_edge.ensures) (m c.hang.new.self) c.hang.result
-          c.args.c c.args.d _ _ (to_z-of_z w16 c.args.c c.ranges.c) (to_z-of_z w16 c.args.d c.ranges.d) _ _
-          c.in-Some.ensures c.in-Some-start_of.ensures (sym c.if-is_same.ensures) (sym c.if-not-may_join.ensures)
-          (subst₂ (λ a b. Hangs max_edge (m x) c.args.edge a b c.hang.result (m c.hang.new.self)) c.after.ensures c.after-2.ensures c.hang.ensures));
-      zero = search rules;
-      empty = search rules;
-    }
+    let told : c.ok_or.result ≡ said c.hang-done.result NoRoom = search rules in
+    subst (λ o. Settled (join_questions max_edge (m x) c.args.edge c.args.c c.args.d) (made (joins c.args.edge c.args.c c.args.d [] []) (m x).lines) (m x) o (m c.hang-done.new.self)) (sym told)
+    (join_done max_edge (m x) c.args.edge (sym c.if-not-is_number.ensures) (sym c.if-holds_edge.ensures) (m c.hang-done.new.self) c.hang-done.result
+    c.args.c c.args.d _ _ (to_z-of_z w16 c.args.c c.ranges.c) (to_z-of_z w16 c.args.d c.ranges.d) _ _
+    c.in-Some.ensures c.in-Some-start_of.ensures (sym c.if-is_same.ensures) (sym c.if-not-may_join.ensures)
+    (subst₂ (λ a b. Hangs max_edge (m x) c.args.edge a b c.hang-done.result (m c.hang-done.new.self)) c.after.ensures c.after-2.ensures c.hang-done.ensures))

@@ -14,7 +14,7 @@ use Rattle.writing.proofs.gather.collect_firsts.Goals.{then-starts_in+then-not-i
 pub loop-h-init : goal.loop-h-init
 loop-h-init g c =
     let l = lines_of g.C.Turning.turn g.C.Chart.points c.args.chart.now in
-    firsts_none max_edge l (g.C.Turning.lawful c.args.chart.now) c.placed.ensures c.args.borders.now.items c.args.strip c.args.names.now c.args.marks.now c.args.firsts.now c.requires.marks.1
+    firsts_none max_edge l (g.C.Turning.lawful c.args.chart.now) c.placed.ensures c.args.borders.now.items c.args.strip c.args.names.now c.args.marks.now c.args.firsts.now c.requires.marks
 
 pub is_marked-requires : goal.is_marked-requires
 is_marked-requires g c =
@@ -23,7 +23,7 @@ is_marked-requires g c =
     let z = get_or names c.loop-h.h-index (pos 0) in
     let f : SFits w16 z = search rules in
     let own : z ∈ names_in max_edge c.args.borders.now.items l c.args.strip = subst (λ zs. z ∈ zs) c.requires.names (element_in names c.loop-h.h-index (pos 0) c.loop-h-test.true) in
-    (c.loop-h.auto.marks ∙ c.requires.marks.0, subst (Within max_edge) (sym (to_z-of_z w16 z f)) (in_strip_within max_edge _ l (g.C.Turning.lawful c.args.chart.now) _ z own))
+    subst (Within max_edge) (sym (to_z-of_z w16 z f)) (in_strip_within max_edge _ l (g.C.Turning.lawful c.args.chart.now) _ z own)
 
 pub mark_round-requires : goal.mark_round-requires
 mark_round-requires g c =
@@ -32,7 +32,7 @@ mark_round-requires g c =
     let z = get_or names c.loop-h.h-index (pos 0) in
     let f : SFits w16 z = search rules in
     let own : z ∈ names_in max_edge c.args.borders.now.items l c.args.strip = subst (λ zs. z ∈ zs) c.requires.names (element_in names c.loop-h.h-index (pos 0) c.loop-h-test.true) in
-    (c.loop-h.auto.marks ∙ c.requires.marks.0, ap l.turn.held (to_z-of_z w16 z f) ∙ in_strip_held max_edge _ l (g.C.Turning.lawful c.args.chart.now) _ z own)
+    ap l.turn.held (to_z-of_z w16 z f) ∙ in_strip_held max_edge _ l (g.C.Turning.lawful c.args.chart.now) _ z own
 
 -- the lists as they are at the end of a turn
 alike : (l : Linework) (bs : List ℤ) (i : ℕ) (names : List ℤ) (k : ℕ) {m m' : List ℕ} {zs zs' : List ℤ} {count count' : ℕ} → m ≡ m' → zs ≡ zs' → count ≡ count'

@@ -86,7 +86,7 @@ fn point_new(s: Strip<'_>, k: u16) -> bool
 {
     let here = s.point(k);
     for m in 0..k {
-        if s.point(m).is_same(here) {
+        if s.point(m) == here {
             return false;
         }
     }

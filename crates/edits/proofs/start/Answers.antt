@@ -1,6 +1,7 @@
-use Rattle.std.proofs.Common.{sym, subst₂}
+use Rattle.std.proofs.Common.{sym, ◌∙◌, subst₂}
 use Rattle.turning.specs.Limits.{max_edge}
 use Rattle.chart.specs.Stores.{meant, Hangs}
+use Rattle.chart.proofs.Compared.{points_equal}
 use Rattle.edits.specs.Edits.{starts, Done}
 use Rattle.edits.proofs.Tables.{start_done}
 use Rattle.edits.proofs.Keeping.{keeps_flat}
@@ -14,6 +15,6 @@ returns g c =
     let done : Done max_edge (m x) e c.said.result (m c.hang.new.self) =
     rw c.said.ensures
     (start_done max_edge (m x) c.args.edge (sym c.if-not-is_number.ensures) (sym c.if-holds_edge.ensures) (m c.hang.new.self) c.hang.result
-    c.args.p c.args.q (sym c.if-not-is_free.ensures) (sym c.if-not-is_free-2.ensures) (sym c.if-is_same.ensures)
-    (subst₂ (λ a b. Hangs max_edge (m x) c.args.edge a b c.hang.result (m c.hang.new.self)) c.new_end.ensures c.new_end-2.ensures c.hang.ensures)) in
+    c.args.p c.args.q (sym c.if-not-is_free.ensures) (sym c.if-not-is_free-2.ensures) (sym (c.if-eq.ensures ∙ points_equal c.args.p c.args.q))
+    (subst₂ (λ a b. Hangs max_edge (m x) c.args.edge a b c.hang.result (m c.hang.new.self)) c.new.ensures c.new-2.ensures c.hang.ensures)) in
     record { done = done; flat = keeps_flat max_edge (m x) (g.S.Turning.lawful x, c.placed.ensures) _ e _ done }

@@ -1,11 +1,11 @@
-use Rattle.std.proofs.Common.{◌≡◌, ℕ, suc, ◌+◌, ◌-◌, ◌<◌, true, List, get_or, ℤ, pos, sym, ap, ◌∙◌, subst, add-one, arith, w16, w32, SFits, of_z, rules, below_more}
+use Rattle.std.proofs.Common.{◌≡◌, ℕ, suc, ◌+◌, ◌-◌, ◌<◌, ◌≤◌, true, List, length, get_or, ℤ, pos, sym, ap, ◌∙◌, subst, add-one, arith, w16, w32, SFits, of_z, rules, below_more}
 use Rattle.std.proofs.lemmas.Int.{to_z-of_z}
 use Rattle.std.proofs.lemmas.Bool.{leb-true}
 use Rattle.turning.specs.Limits.{max_edge, slots}
 use Rattle.turning.proofs.Names.{same_name}
 use Rattle.laws.proofs.Equal.{tell}
 use Rattle.halfedges.specs.declared.halfedge.Halfedge.{Halfedge}
-use Rattle.halfedges.specs.View.{none, seen, Roomy, written}
+use Rattle.halfedges.specs.View.{none, seen, written}
 use Rattle.halfedges.specs.Rows.{home, Indexed, lines_in, Core}
 use Rattle.halfedges.specs.Homes.{HomesAlone, with_strip}
 use Rattle.halfedges.proofs.Alone.{held_home, named_home, moved_lines, moved_indexed, moved_alone, moved_here, moved_there}
@@ -26,12 +26,12 @@ Renumbered bs rs₀ i rs = Core max_edge slots rs × (lines_in (seen rs) ≡ lin
 
 -- the next row, which is home, has moved
 moved : (bs : List ℤ) (rs₀ : List Halfedge) (i : ℕ) (rs rs' : List Halfedge) (strip : ℕ) → i < slots → Renumbered bs rs₀ i rs → home ((seen rs).row (suc i)) ≡ true → strip ≡ strip_of bs ((seen rs).row (suc i)).x
-    → seen rs' ≡ written (i + 1) (with_strip strip ((seen rs).row (i + 1))) (seen rs) → Roomy max_edge slots rs' → Renumbered bs rs₀ (i + 1) rs'
-moved bs rs₀ i rs rs' strip l past here is view roomy =
+    → seen rs' ≡ written (i + 1) (with_strip strip ((seen rs).row (i + 1))) (seen rs) → slots ≤ length rs' → Renumbered bs rs₀ (i + 1) rs'
+moved bs rs₀ i rs rs' strip l past here is view long =
     let v = seen rs in
     let e : seen rs' ≡ written (suc i) (with_strip strip (v.row (suc i))) v = view ∙ ap (λ s. written s (with_strip strip (v.row s)) v) (add-one i) in
     let lines : lines_in (seen rs') ≡ lines_in v = ap lines_in e ∙ moved_lines slots v (suc i) strip in (
-      core_same max_edge slots rs rs' past.0 roomy (subst (Indexed slots) (sym e) (moved_indexed slots v (suc i) strip past.0.indexed)) lines,
+      core_same max_edge slots rs rs' past.0 long (subst (Indexed slots) (sym e) (moved_indexed slots v (suc i) strip past.0.indexed)) lines,
       lines ∙ past.1,
       subst (HomesAlone slots) (sym e) (moved_alone slots v (suc i) strip here past.2),
       below_more _ _
@@ -60,7 +60,7 @@ loop-i-preserved c =
           let here = named_home max_edge slots (seen rs) past.0.indexed past.0.sound.0 past.2 (suc i) (omega arith) (omega arith) some in
           let fx : SFits w32 r.x = search rules in
           let is : w.strip_of-strip.result ≡ strip_of bs ((seen rs).row (suc i)).x = w.strip_of-strip.ensures ∙ ap (strip_of bs) (to_z-of_z w32 r.x fx ∙ sym (ap (λ y. y.x) e)) in
-          subst (Renumbered bs rs₀ (i + 1)) (sym w.rows-is) (moved bs rs₀ i rs w.set_strip.new.rows w.strip_of-strip.result below past here is w.set_strip.ensures.view w.set_strip.ensures.roomy)
+          subst (Renumbered bs rs₀ (i + 1)) (sym w.rows-is) (moved bs rs₀ i rs w.set_strip.new.rows w.strip_of-strip.result below past here is w.set_strip.ensures (omega arith))
       | else-rows-i-ne0 w ↦
           let free : ((seen rs).row (suc i)).name ≡ pos 0 = ap (λ y. y.name) e ∙ same_name r.name (pos 0) fn (search rules) w.if-rows-i-ne0.false in
           subst (Renumbered bs rs₀ (i + 1)) (sym w.rows-is) (left bs rs₀ i rs past free)

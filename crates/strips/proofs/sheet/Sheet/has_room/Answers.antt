@@ -5,12 +5,9 @@ use Rattle.halfedges.specs.View.{seen}
 use Rattle.halfedges.proofs.Counted.{used_within}
 use Rattle.strips.specs.Borders.{strip_of, apart}
 use Rattle.strips.specs.Cuts.{list_of}
-use Rattle.strips.proofs.Standing.{kept_out, kept_lent, long_fits}
+use Rattle.strips.proofs.Standing.{kept_out, long_fits}
 use Rattle.strips.proofs.sheet.Sheet.has_room.Goals as goal
 use Rattle.strips.proofs.sheet.Sheet.has_room.Goals.{then-a-b, else-a-b}
-
-pub count_used-requires : goal.count_used-requires
-count_used-requires c = kept_lent (list_of c.args.self.now.borders) _ c.args.self.now.ok c.if-self-lt-SLOTS.false
 
 -- how many borders lie between two strips
 crossing : (c : goal.After-row_known-1) → c.if-a-b.crossed ≡ apart c.strip_of-a.result c.strip_of-b.result

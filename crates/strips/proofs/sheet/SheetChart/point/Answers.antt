@@ -1,6 +1,0 @@
-use Rattle.strips.specs.Cuts.{list_of}
-use Rattle.strips.proofs.Standing.{kept_lent}
-use Rattle.strips.proofs.sheet.SheetChart.point.Goals as goal
-
-pub point_of-requires : goal.point_of-requires
-point_of-requires c = kept_lent (list_of c.args.self.now.borders) _ c.args.self.now.ok

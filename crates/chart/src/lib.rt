@@ -32,6 +32,7 @@ pub trait Chart: Turning {
         ensures { result ≡ vertex_at max_edge (lines_of Self.Turning.turn points self.now) p }
     {
         self.placed();
+        // A range without its last number, since std's lemmas on chains begin with such a one.
         (1..MAX_EDGE + 1).any(
             |e: u16| -> bool
                 requires { e ≤ max_edge }

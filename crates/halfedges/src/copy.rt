@@ -14,7 +14,7 @@ use chart::asks::holds_edge;
 use turning::Turning;
 use turning::limits::MAX_EDGE;
 
-// The number of edges of any turning.
+// The number of edges of any turning, by a range without its last number, with which std's lemmas on chains begin.
 pub fn count_edges<T: Turning>(t: &T) -> u16
     ensures { result ≡ edge_count max_edge (T.Turning.turn t.now) }
 {

@@ -61,6 +61,7 @@ impl<'a> Table<'a> {
     }
 }
 
+// One line each over the lent records, as a struct below with its own impls would leave it: a table still has to pass every method on.
 impl Turning for Table<'_> {
     ghost turn = { λ t. turn_of (seen t.rows.at.now) };
 

@@ -1,6 +1,6 @@
 -- The three changes of line work: an edge hung between two ends, an edge lifted, an edge cleft at a point.
 -- Assumes nothing.
-use Rattle.std.specs.Prelude.{ℕ, Bool, true, false, cond, not, ◌&&◌, ℤ, pos, neg_ℤ, Some, None, Option, nat_le}
+use Rattle.std.specs.Prelude.{ℕ, Bool, true, false, cond, not, ◌&&◌, ◌||◌, ℤ, pos, neg_ℤ, Some, None, Option, nat_le}
 use Rattle.flat.specs.Orbits.{any}
 use Rattle.flat.specs.Whole.{equal}
 use Rattle.turning.specs.Turn.{Turn}
@@ -59,6 +59,10 @@ hung e a b l = record {
   turn = put (eastern a b).corner (neg_ℤ (pos e)) (put (western a b).corner (pos e) l.turn);
   points = at (neg_ℤ (pos e)) (Some (eastern a b).point) (at (pos e) (Some (western a b).point) l.points);
 }
+
+-- one of the two names of the edge e starts at p
+abbrev pub starts_at : Linework → Point → ℕ → Bool
+starts_at l p e = is_point p (l.points (pos e)) || is_point p (l.points (neg_ℤ (pos e)))
 
 -- some vertex stands at p
 abbrev pub vertex_at : ℕ → Linework → Point → Bool

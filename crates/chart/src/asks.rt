@@ -13,7 +13,7 @@ use turning::limits::MAX_EDGE;
 pub fn is_number(edge: u16) -> bool
     ensures { result ≡ numbered max_edge edge }
 {
-    1 <= edge && edge <= MAX_EDGE
+    (1..=MAX_EDGE).contains(&edge)
 }
 
 // Is the edge held?
@@ -63,7 +63,7 @@ pub fn joins_at<C: Chart>(chart: &C, end: End) -> bool
 {
     match end.corner {
         None => !chart.is_vertex(end.point),
-        Some(c) => chart.holds(c) && end.point.is_told(chart.point(c)),
+        Some(c) => chart.holds(c) && chart.point(c) == Some(end.point),
     }
 }
 
@@ -71,26 +71,26 @@ pub fn joins_at<C: Chart>(chart: &C, end: End) -> bool
 pub fn may_hang<C: Chart>(chart: &C, edge: u16, a: End, b: End, fits: bool) -> bool
     ensures { result ≡ may_hang max_edge (lines_of C.Turning.turn C.Chart.points chart.now) (λ _ _. fits) edge a b }
 {
-    let mut may = is_number(edge);
-    may = may && !holds_edge(chart, edge);
-    may = may && a.point.is_on_sheet();
-    may = may && b.point.is_on_sheet();
-    may = may && !a.point.is_same(b.point);
-    may = may && joins_at(chart, a);
-    may = may && joins_at(chart, b);
-    may && fits
+    is_number(edge)
+        && !holds_edge(chart, edge)
+        && a.point.is_on_sheet()
+        && b.point.is_on_sheet()
+        && a.point != b.point
+        && joins_at(chart, a)
+        && joins_at(chart, b)
+        && fits
 }
 
 // May the edge be cleft at the point, its eastern part a new edge, where `fits` says whether the point fits?
 pub fn may_cleave<C: Chart>(chart: &C, edge: u16, east: u16, at: Point, fits: bool) -> bool
     ensures { result ≡ may_cleave max_edge (lines_of C.Turning.turn C.Chart.points chart.now) (λ _ _. fits) edge east at }
 {
-    let mut may = holds_edge(chart, edge);
-    may = may && is_number(east);
-    may = may && !holds_edge(chart, east);
-    may = may && at.is_on_sheet();
-    may = may && !chart.is_vertex(at);
-    may = may && is_told_west(west_end(chart, edge), Some(at));
-    may = may && is_told_west(Some(at), east_end(chart, edge));
-    may && fits
+    holds_edge(chart, edge)
+        && is_number(east)
+        && !holds_edge(chart, east)
+        && at.is_on_sheet()
+        && !chart.is_vertex(at)
+        && is_told_west(west_end(chart, edge), Some(at))
+        && is_told_west(Some(at), east_end(chart, edge))
+        && fits
 }

@@ -1,12 +1,12 @@
 // Charts: turnings that tell points. Stores: charts that can be changed.
 #![tactic(auto)]
 
-ghost use Rattle.std.specs.Prelude.{◌≡◌, Bool, true, false, ℤ, Option};
+ghost use Rattle.std.specs.Prelude.{◌≡◌, ◌≤◌, Bool, true, false, ℤ, Option};
 ghost use Rattle.turning.specs.Limits.{max_edge};
 ghost use Rattle.chart.specs.declared.point.Point.{Point};
 ghost use Rattle.chart.specs.declared.point.End.{End};
 ghost use Rattle.chart.specs.Linework.{Placed, lines_of};
-ghost use Rattle.chart.specs.Changes.{vertex_at};
+ghost use Rattle.chart.specs.Changes.{starts_at, vertex_at};
 ghost use Rattle.chart.specs.Stores.{Frame, meant, Hangs, Lifts, Cleaves};
 
 use point::{End, Point};
@@ -32,13 +32,16 @@ pub trait Chart: Turning {
         ensures { result ≡ vertex_at max_edge (lines_of Self.Turning.turn points self.now) p }
     {
         self.placed();
-        for e in 1..=MAX_EDGE {
-            let h = e as i16;
-            if p.is_told(self.point(h)) || p.is_told(self.point(-h)) {
-                return true;
-            }
-        }
-        false
+        // A range without its last number, since std's lemmas on chains begin with such a one.
+        (1..MAX_EDGE + 1).any(
+            |e: u16| -> bool
+                requires { e ≤ max_edge }
+                ensures { result ≡ starts_at (lines_of Self.Turning.turn points self.entry.now) p e }
+            {
+                let h = e as i16;
+                self.point(h) == Some(p) || self.point(-h) == Some(p)
+            },
+        )
     }
 }
 

@@ -1,11 +1,12 @@
 // Points of the sheet, and the ends of a new edge.
 ghost use Rattle.std.specs.Prelude.{◌≡◌};
-ghost use Rattle.chart.specs.Points.{within, on_sheet, same_point, west, is_point, told_west};
+ghost use Rattle.chart.specs.Points.{within, on_sheet, west, told_west};
 
+use std::fmt;
 use turning::limits::MAX_COORDINATE;
 
-// A point by its whole coordinates.
-#[derive(Clone, Copy, PartialEq, Eq, Debug)]
+// A point by its whole coordinates. Points are in order from west to east: by x, then by y.
+#[derive(Clone, Copy, PartialEq, Eq, PartialOrd, Ord, Default, Debug)]
 pub struct Point {
     pub x: i32,
     pub y: i32,
@@ -22,7 +23,7 @@ pub struct End {
 pub fn is_within(z: i32) -> bool
     ensures { result ≡ within z }
 {
-    -MAX_COORDINATE <= z && z <= MAX_COORDINATE
+    (-MAX_COORDINATE..=MAX_COORDINATE).contains(&z)
 }
 
 impl Point {
@@ -33,27 +34,34 @@ impl Point {
         is_within(self.x) && is_within(self.y)
     }
 
-    // Are the two points equal?
-    pub fn is_same(self, other: Point) -> bool
-        ensures { result ≡ same_point self other }
-    {
-        self.x == other.x && self.y == other.y
-    }
-
-    // Is this point west of the other: a smaller x, or an equal x and a smaller y?
+    // Is this point west of the other: a smaller x, or an equal x and a smaller y? The subject's word for the order of points.
     pub fn is_west_of(self, other: Point) -> bool
         ensures { result ≡ west self other }
     {
-        self.x < other.x || (self.x == other.x && self.y < other.y)
+        self < other
+    }
+}
+
+impl End {
+    ghost use Rattle.chart.specs.Ends.{new_end, after_corner};
+
+    // The end of an edge at a new point.
+    pub fn new(point: Point) -> End
+        ensures { result ≡ new_end point }
+    {
+        End {
+            point,
+            corner: None,
+        }
     }
 
-    // Is this the point that is told?
-    pub fn is_told(self, told: Option<Point>) -> bool
-        ensures { result ≡ is_point self told }
+    // The end of an edge directly after a corner that starts at the point.
+    pub fn after(point: Point, corner: i16) -> End
+        ensures { result ≡ after_corner point corner }
     {
-        match told {
-            None => false,
-            Some(p) => self.is_same(p),
+        End {
+            point,
+            corner: Some(corner),
         }
     }
 }
@@ -65,5 +73,11 @@ pub fn is_told_west(p: Option<Point>, q: Option<Point>) -> bool
     match (p, q) {
         (Some(p), Some(q)) => p.is_west_of(q),
         _ => false,
+    }
+}
+
+impl fmt::Display for Point {
+    fn fmt<W: fmt::Write>(&self, f: &mut fmt::Formatter<W>) -> fmt::Result {
+        write!(f, "({}, {})", self.x, self.y)
     }
 }

@@ -17,7 +17,8 @@ use Rattle.chart.specs.Changes.{hung}
 use Rattle.chart.specs.Stores.{Meaning}
 use Rattle.laws.specs.Keeps.{Sound}
 use Rattle.laws.proofs.Proved.{hung_flat, lifted_flat, cleft_flat}
-use Rattle.edits.specs.Edits.{Edit, starts, sprouts, joins, splits, removes, questions, join_before, join_last, may_join, start_of, new_end, after, free_point, made, Changed, Done, KeepsFlat, Judged}
+use Rattle.chart.specs.Ends.{new_end, after_corner}
+use Rattle.edits.specs.Edits.{Edit, starts, sprouts, joins, splits, removes, questions, join_before, join_last, may_join, start_of, free_point, made, Changed, Done, KeepsFlat, Judged}
 use Rattle.edits.specs.Asked.{Started}
 use Rattle.edits.proofs.Points.{started_is}
 use Rattle.edits.proofs.Tables.{said, corner_is, start_is, start_asked, sprout_asked, join_asked, split_asked}
@@ -97,7 +98,7 @@ module _ (n : ℕ) (m : Meaning) (sound : Sound n m.lines) where
       let b = begun c y.1.1.0 in
       let may = yes_said _ _ (sym (sprout_asked n m e y.0 (not-true _ y.1.0) sound.0 c b.0 p b.1 y.1.1.1.0) ∙ ok) in
       subst (λ w. Flat n (hung e w (new_end p) m.lines).turn) (corner_is m.lines c b.0 b.1)
-      (((hung_flat n m.lines sound m.fits e (after b.0 c) (new_end p) may).1 f).1 tt)
+      (((hung_flat n m.lines sound m.fits e (after_corner b.0 c) (new_end p) may).1 f).1 tt)
   done_flat (joins e c d marks line) ok f =
       let z = all_yes (questions n m (joins e c d marks line)) ok in
       let y = z.1 in
@@ -107,7 +108,7 @@ module _ (n : ℕ) (m : Meaning) (sound : Sound n m.lines) where
       let apart : same_point a.0 b.0 ≡ false = sym (ap₂ same_point (start_is m.lines c a.0 a.1) (start_is m.lines d b.0 b.1)) ∙ not-true _ y.1.1.1.0 in
       let may = yes_said _ _ (sym (join_asked n m e y.0 (not-true _ y.1.0) c d a.0 b.0 a.1 b.1 apart y.1.1.1.1.0) ∙ sym (cond-true (enough n marks line) _ _ z.0) ∙ ok) in
       subst₂ (λ (u w : End). Flat n (hung e u w m.lines).turn) (corner_is m.lines c a.0 a.1) (corner_is m.lines d b.0 b.1)
-      (((hung_flat n m.lines sound m.fits e (after a.0 c) (after b.0 d) may).1 f).1 (meets_yes n m.lines.turn sound.0 c d k.0 y.1.1.1.1.0))
+      (((hung_flat n m.lines sound m.fits e (after_corner a.0 c) (after_corner b.0 d) may).1 f).1 (meets_yes n m.lines.turn sound.0 c d k.0 y.1.1.1.1.0))
   done_flat (splits e k p) ok f =
       let y = all_yes (questions n m (splits e k p)) ok in
       let may = yes_said _ _ (sym (split_asked n m k y.0 (not-true _ y.1.0) e p y.1.1.0 y.1.1.1.0 y.1.1.1.1.0) ∙ ok) in

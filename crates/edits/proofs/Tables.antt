@@ -13,7 +13,8 @@ use Rattle.chart.specs.Points.{is_point, on_sheet, same_point, told_west}
 use Rattle.chart.specs.Linework.{Linework}
 use Rattle.chart.specs.Changes.{numbered, vertex_at, hung, may_hang, joins_at, may_cleave}
 use Rattle.chart.specs.Stores.{Meaning, Change, Hangs, Cleaves}
-use Rattle.edits.specs.Edits.{starts, sprouts, joins, splits, questions, join_questions, Changed, Settled, Done, free_point, inside, may_join, told_point, new_end, after, corner_end, start_of}
+use Rattle.chart.specs.Ends.{new_end, after_corner}
+use Rattle.edits.specs.Edits.{starts, sprouts, joins, splits, questions, join_questions, Changed, Settled, Done, free_point, inside, may_join, told_point, corner_end, start_of}
 use Rattle.edits.specs.Asked.{Started}
 use Rattle.edits.proofs.Points.{point_refl, apart_from}
 
@@ -69,8 +70,8 @@ pub start_is : (l : Linework) (c : ℤ) (at : Point) → Started l c (Some at) �
 start_is l c at f = ap told_point f.1
 
 -- the end that the code makes at a corner is the one that is meant
-pub corner_is : (l : Linework) (c : ℤ) (at : Point) → Started l c (Some at) → after at c ≡ corner_end l c
-corner_is l c at f = ap (λ w. after w c) (sym (start_is l c at f))
+pub corner_is : (l : Linework) (c : ℤ) (at : Point) → Started l c (Some at) → after_corner at c ≡ corner_end l c
+corner_is l c at f = ap (λ w. after_corner w c) (sym (start_is l c at f))
 
 module _ (n : ℕ) (m : Meaning) (e : ℕ) (number : numbered n e ≡ true) (unused : m.lines.turn.held (pos e) ≡ false) where
   pub start_asked : (p q : Point) → free_point n m.lines p ≡ true → free_point n m.lines q ≡ true → same_point p q ≡ false
@@ -82,7 +83,7 @@ module _ (n : ℕ) (m : Meaning) (e : ℕ) (number : numbered n e ≡ true) (unu
       ∙ ap (λ b. said b NoRoom) (hangs_if (numbered n e) (m.lines.turn.held (pos e)) (on_sheet p) (on_sheet q) (same_point p q) (not (vertex_at n m.lines p)) (not (vertex_at n m.lines q)) (m.fits p q) number unused a.0 b.0 s a.1 b.1)
 
   pub sprout_asked : Lawful n m.lines.turn → (c : ℤ) (at p : Point) → Started m.lines c (Some at) → free_point n m.lines p ≡ true
-      → outcome (questions n m (sprouts e c p)) ≡ said (may_hang n m.lines m.fits e (after at c) (new_end p)) NoRoom
+      → outcome (questions n m (sprouts e c p)) ≡ said (may_hang n m.lines m.fits e (after_corner at c) (new_end p)) NoRoom
   sprout_asked law c at p f fp =
       let b = and_parts (on_sheet p) (not (vertex_at n m.lines p)) fp in
       let s = apart_from n m.lines law p at c f.0 f.1 (not-true _ b.1) in
@@ -92,7 +93,7 @@ module _ (n : ℕ) (m : Meaning) (e : ℕ) (number : numbered n e ≡ true) (unu
 
   pub join_asked : (c d : ℤ) (a b : Point) → Started m.lines c (Some a) → Started m.lines d (Some b) → same_point a b ≡ false
       → may_join n m.lines.turn c d ≡ true
-      → outcome (join_questions n m e c d) ≡ said (may_hang n m.lines m.fits e (after a c) (after b d)) NoRoom
+      → outcome (join_questions n m e c d) ≡ said (may_hang n m.lines m.fits e (after_corner a c) (after_corner b d)) NoRoom
   join_asked c d a b fc fd s ok =
       let sc = start_is m.lines c a fc in
       let sd = start_is m.lines d b fd in
@@ -125,20 +126,20 @@ module _ (n : ℕ) (m : Meaning) (e : ℕ) (number : numbered n e ≡ true) (unu
     start_done p q fp fq s h = closes (questions n m (starts e p q)) _ m m' NoRoom _ r (start_asked p q fp fq s) h
 
     pub sprout_done : Lawful n m.lines.turn → (c z : ℤ) → z ≡ c → (at p : Point) → Started m.lines z (Some at) → free_point n m.lines p ≡ true
-        → Hangs n m e (after at z) (new_end p) r m' → Done n m (sprouts e c p) (said r NoRoom) m'
+        → Hangs n m e (after_corner at z) (new_end p) r m' → Done n m (sprouts e c p) (said r NoRoom) m'
     sprout_done law c z b at p f fp h =
         subst (λ w. Done n m (sprouts e w p) (said r NoRoom) m') b
         (closes (questions n m (sprouts e z p)) _ m m' NoRoom _ r (sprout_asked law z at p f fp)
-        (subst (λ w. Change m (may_hang n m.lines m.fits e (after at z) (new_end p)) (hung e w (new_end p) m.lines) r m') (corner_is m.lines z at f) h))
+        (subst (λ w. Change m (may_hang n m.lines m.fits e (after_corner at z) (new_end p)) (hung e w (new_end p) m.lines) r m') (corner_is m.lines z at f) h))
 
     pub join_done : (c d y z : ℤ) → y ≡ c → z ≡ d → (a b : Point) → Started m.lines y (Some a) → Started m.lines z (Some b)
-        → same_point a b ≡ false → may_join n m.lines.turn y z ≡ true → Hangs n m e (after a y) (after b z) r m'
+        → same_point a b ≡ false → may_join n m.lines.turn y z ≡ true → Hangs n m e (after_corner a y) (after_corner b z) r m'
         → Settled (join_questions n m e c d) (hung e (corner_end m.lines c) (corner_end m.lines d) m.lines) m (said r NoRoom) m'
     join_done c d y z i j a b fc fd s ok h =
         subst (λ w. Settled (join_questions n m e w d) (hung e (corner_end m.lines w) (corner_end m.lines d) m.lines) m (said r NoRoom) m') i
         (subst (λ w. Settled (join_questions n m e y w) (hung e (corner_end m.lines y) (corner_end m.lines w) m.lines) m (said r NoRoom) m') j
         (closes (join_questions n m e y z) _ m m' NoRoom _ r (join_asked y z a b fc fd s ok)
-        (subst (λ w. Change m (may_hang n m.lines m.fits e (after a y) (after b z)) w r m') (ap₂ (λ (u v : End). hung e u v m.lines) (corner_is m.lines y a fc) (corner_is m.lines z b fd)) h)))
+        (subst (λ w. Change m (may_hang n m.lines m.fits e (after_corner a y) (after_corner b z)) w r m') (ap₂ (λ (u v : End). hung e u v m.lines) (corner_is m.lines y a fc) (corner_is m.lines z b fd)) h)))
 
     pub split_done : (k : ℕ) (p : Point) → m.lines.turn.held (pos k) ≡ true → free_point n m.lines p ≡ true → inside m.lines k p ≡ true
         → Cleaves n m k e p r m' → Done n m (splits k e p) (said r NoRoom) m'

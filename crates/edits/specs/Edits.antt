@@ -9,6 +9,7 @@ use Rattle.search.specs.Buffers.{enough}
 use Rattle.chart.specs.declared.point.Point.{Point}
 use Rattle.chart.specs.declared.point.End.{End}
 use Rattle.chart.specs.Points.{on_sheet, same_point, told_west}
+use Rattle.chart.specs.Ends.{new_end, after_corner}
 use Rattle.chart.specs.Linework.{Linework}
 use Rattle.chart.specs.Changes.{numbered, vertex_at, hung, lifted, cleft}
 use Rattle.chart.specs.Stores.{Meaning}
@@ -30,17 +31,9 @@ told_point (Some p) = p
 abbrev pub start_of : Linework → ℤ → Point
 start_of l c = told_point (l.points c)
 
--- the end of an edge at a new point
-abbrev pub new_end : Point → End
-new_end p = record { point = p; corner = None }
-
--- the end of an edge at p, directly after the corner c
-abbrev pub after : Point → ℤ → End
-after p c = record { point = p; corner = Some c }
-
 -- the end of an edge where c starts, directly after it
 abbrev pub corner_end : Linework → ℤ → End
-corner_end l c = after (start_of l c) c
+corner_end l c = after_corner (start_of l c) c
 
 -- the number is from 1 to n, and unused
 abbrev pub number_questions : ℕ → Linework → ℕ → Questions

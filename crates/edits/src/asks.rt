@@ -1,33 +1,13 @@
-// What the edits ask, and the ends that they hang an edge between.
+// What the edits ask.
 ghost use Rattle.std.specs.Prelude.{◌≡◌};
 ghost use Rattle.turning.specs.Limits.{max_edge};
 ghost use Rattle.chart.specs.Linework.{lines_of};
-ghost use Rattle.edits.specs.Edits.{free_point, inside, new_end, after as after_corner};
+ghost use Rattle.edits.specs.Edits.{free_point, inside};
 ghost use Rattle.edits.specs.Asked.{Started};
 
 use chart::Chart;
 use chart::asks::{east_end, west_end};
-use chart::point::{End, Point, is_told_west};
-
-// The end of an edge at a new point.
-pub(crate) fn new_end(p: Point) -> End
-    ensures { result ≡ new_end p }
-{
-    End {
-        point: p,
-        corner: None,
-    }
-}
-
-// The end of an edge directly after a corner that starts at the point.
-pub(crate) fn after(p: Point, corner: i16) -> End
-    ensures { result ≡ after_corner p corner }
-{
-    End {
-        point: p,
-        corner: Some(corner),
-    }
-}
+use chart::point::{Point, is_told_west};
 
 // Is the point in range and on no vertex?
 pub(crate) fn is_free<C: Chart>(chart: &C, p: Point) -> bool

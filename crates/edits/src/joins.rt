@@ -7,9 +7,10 @@ ghost use Rattle.chart.specs.Linework.{lines_of};
 ghost use Rattle.chart.specs.Stores.{meant};
 ghost use Rattle.edits.specs.Edits.{joins, made, may_join, join_questions, Settled};
 
-use crate::asks::{after, start_of};
+use crate::asks::start_of;
 use chart::Store;
 use chart::asks::{holds_edge, is_number};
+use chart::point::End;
 use search::marks::{Lent, Line, Marks};
 use search::pieces::is_joined;
 use search::walk::steps;
@@ -64,12 +65,12 @@ pub(crate) fn join_within<S: Store>(
     let Some(b) = start_of(store, d) else {
         return Err(Refusal::NotThere);
     };
-    if a.is_same(b) {
+    if a == b {
         return Err(Refusal::SameEnds);
     }
     if !may_join(store, c, d, lent.at, waiting.at) {
         return Err(Refusal::LoopsOfOnePiece);
     }
-    let done = store.hang(edge, after(a, c), after(b, d));
+    let done = store.hang(edge, End::after(a, c), End::after(b, d));
     done.then_some(()).ok_or(Refusal::NoRoom)
 }

@@ -8,10 +8,10 @@ ghost use Rattle.chart.specs.Stores.{meant};
 ghost use Rattle.search.specs.Buffers.{enough, given_back};
 ghost use Rattle.edits.specs.Edits.{starts, sprouts, joins, splits, removes, Done, KeepsFlat, Judged};
 
-use asks::{after, is_free, is_inside, new_end, start_of};
+use asks::{is_free, is_inside, start_of};
 use chart::Store;
 use chart::asks::{holds_edge, is_number};
-use chart::point::Point;
+use chart::point::{End, Point};
 use joins::join_within;
 use turning::limits::{LINE_NAMES, MARK_BYTES};
 use turning::refusal::Refusal;
@@ -34,10 +34,10 @@ pub fn start<S: Store>(store: &mut S, edge: u16, p: Point, q: Point) -> Result<(
     if !is_free(store, p) || !is_free(store, q) {
         return Err(Refusal::PointTaken);
     }
-    if p.is_same(q) {
+    if p == q {
         return Err(Refusal::SameEnds);
     }
-    let done = store.hang(edge, new_end(p), new_end(q));
+    let done = store.hang(edge, End::new(p), End::new(q));
     done.then_some(()).ok_or(Refusal::NoRoom)
 }
 
@@ -59,7 +59,7 @@ pub fn sprout<S: Store>(store: &mut S, edge: u16, corner: i16, p: Point) -> Resu
     if !is_free(store, p) {
         return Err(Refusal::PointTaken);
     }
-    let done = store.hang(edge, after(at, corner), new_end(p));
+    let done = store.hang(edge, End::after(at, corner), End::new(p));
     done.then_some(()).ok_or(Refusal::NoRoom)
 }
 

@@ -28,32 +28,18 @@ mod tests {
 
     const C: Point = Point { x: 2, y: 3 };
 
-    fn new_end(point: Point) -> End {
-        End {
-            point,
-            corner: None,
-        }
-    }
-
-    fn after(point: Point, c: i16) -> End {
-        End {
-            point,
-            corner: Some(c),
-        }
-    }
-
     // Edge 1 from A to B, 2 from A to C, 3 from C to B.
     fn draw_triangle<S: Store>(rt: &impl Abort, store: &mut S) {
-        assert!(rt; store.hang(1, new_end(A), new_end(B)));
-        assert!(rt; store.hang(2, after(A, 1), new_end(C)));
-        assert!(rt; store.hang(3, after(C, -2), after(B, -1)));
+        assert!(rt; store.hang(1, End::new(A), End::new(B)));
+        assert!(rt; store.hang(2, End::after(A, 1), End::new(C)));
+        assert!(rt; store.hang(3, End::after(C, -2), End::after(B, -1)));
     }
 
     // Three edges from A to B; at B the third comes after the halfedge that is given.
     fn draw_three<S: Store>(rt: &impl Abort, store: &mut S, c: i16) {
-        assert!(rt; store.hang(1, new_end(A), new_end(B)));
-        assert!(rt; store.hang(2, after(A, 1), after(B, -1)));
-        assert!(rt; store.hang(3, after(A, 2), after(B, c)));
+        assert!(rt; store.hang(1, End::new(A), End::new(B)));
+        assert!(rt; store.hang(2, End::after(A, 1), End::after(B, -1)));
+        assert!(rt; store.hang(3, End::after(A, 2), End::after(B, c)));
     }
 
     // Next leads through the list from its first halfedge and back to it.
@@ -115,7 +101,7 @@ mod tests {
     fn an_edge_alone_turns_back(rt: HostRuntime) -> Result<(), Fail> {
         let mut memory = vec![in rt.alloc(); FREE; SLOTS]?;
         let mut table = Table::new(memory.as_mut_slice());
-        assert!(rt; table.hang(1, new_end(B), new_end(A)));
+        assert!(rt; table.hang(1, End::new(B), End::new(A)));
         check_loop(&rt, &table, &[1, -1]);
         assert_eq!(rt; table.follower(1), 1);
         assert!(rt; is_flat(count_all(&rt, &table)?));
@@ -152,7 +138,7 @@ mod tests {
         let mut line = vec![in heap; 7i16; LINE_NAMES]?;
         let mut table = Table::new(memory.as_mut_slice());
         assert_eq!(rt; table.ready(), Err(Refusal::ShortMemory));
-        assert!(rt; !table.hang(1, new_end(A), new_end(B)));
+        assert!(rt; !table.hang(1, End::new(A), End::new(B)));
         assert_eq!(rt;
             rounds_of(&table, marks.as_mut_slice()),
             Err(Refusal::ShortBuffers)
@@ -171,7 +157,7 @@ mod tests {
         let mut memory = vec![in rt.alloc(); FREE; SLOTS]?;
         let mut table = Table::new(memory.as_mut_slice());
         draw_triangle(&rt, &mut table);
-        assert!(rt; !table.hang(3, new_end(A), new_end(B)));
+        assert!(rt; !table.hang(3, End::new(A), End::new(B)));
         assert!(rt; !table.cleave(1, 4, B));
         assert!(rt; table.cleave(1, 4, Point { x: 2, y: 0 }));
         check_loop(&rt, &table, &[1, 4, -3, -2]);

@@ -1,5 +1,5 @@
 -- Rows that the index does not lead to: they come and go, and the meaning stays. Assumes nothing.
-use Rattle.std.proofs.Common.{◌≡◌, ℕ, suc, ◌+◌, ◌-◌, ◌*◌, ◌<◌, ◌≤◌, Bool, true, false, cond, not, ◌&&◌, eqb, ltb, leb, List, ℤ, pos, neg_ℤ, Some, None, sym, refl, ap, ◌∙◌, subst, ap₂, arith}
+use Rattle.std.proofs.Common.{◌≡◌, ℕ, suc, ◌+◌, ◌-◌, ◌*◌, ◌<◌, ◌≤◌, Bool, true, false, cond, not, ◌&&◌, eqb, ltb, leb, List, length, ℤ, pos, neg_ℤ, Some, None, sym, refl, ap, ◌∙◌, subst, ap₂, arith}
 use Rattle.std.proofs.lemmas.Int.{ints}
 use Rattle.std.proofs.lemmas.Bool.{cond-true, cond-false, both_ways}
 use Rattle.std.proofs.lemmas.Bool.Decides.{eqb_tells, leb_tells}
@@ -8,7 +8,7 @@ use Rattle.flat.specs.Whole.{equal}
 use Rattle.laws.specs.Keeps.{Sound}
 use Rattle.laws.proofs.Equal.{tell}
 use Rattle.halfedges.specs.declared.halfedge.Halfedge.{Halfedge}
-use Rattle.halfedges.specs.View.{View, none, row_of, written, view, Roomy}
+use Rattle.halfedges.specs.View.{View, none, row_of, written, view}
 use Rattle.halfedges.specs.Rows.{turn_of, row_point, strips_of, lines_in, Unlinked, Indexed, taken_row, used, same_place, row_in, slot_count, externals, Planted, Core}
 use Rattle.halfedges.proofs.Counted.{count_none, slot_gain, slot_loss, used_swap}
 use Rattle.halfedges.proofs.Meaning.{written_unlinked}
@@ -113,8 +113,8 @@ row_in_parts v strip k s here = (
 )
 
 -- a memory with the same line work
-pub core_same : (n cap : ℕ) (rs rs' : List Halfedge) → Core n cap rs → Roomy n cap rs' → Indexed cap (view n cap rs') → lines_in (view n cap rs') ≡ lines_in (view n cap rs) → Core n cap rs'
-core_same n cap rs rs' core roomy indexed lines = record { roomy = roomy; indexed = indexed; sound = subst (Sound n) (sym lines) core.sound }
+pub core_same : (n cap : ℕ) (rs rs' : List Halfedge) → Core n cap rs → cap ≤ length rs' → Indexed cap (view n cap rs') → lines_in (view n cap rs') ≡ lines_in (view n cap rs) → Core n cap rs'
+core_same n cap rs rs' core long indexed lines = record { long = long; indexed = indexed; sound = subst (Sound n) (sym lines) core.sound }
 
 -- ---- several at once
 pub planted_none : (cap : ℕ) (c : ℕ → ℤ → ℕ) (v : View) → ((i : ℕ) (h : ℤ) → c i h ≡ 0) → Planted cap 0 c v v

@@ -8,7 +8,7 @@ use Rattle.chart.specs.Linework.{no_lines}
 use Rattle.laws.specs.Keeps.{Sound}
 use Rattle.laws.proofs.Equal.{tell}
 use Rattle.halfedges.specs.declared.halfedge.Halfedge.{Halfedge}
-use Rattle.halfedges.specs.View.{View, none, key, is_name, entry_at, seen, Roomy}
+use Rattle.halfedges.specs.View.{View, none, key, is_name, entry_at, seen}
 use Rattle.halfedges.specs.Rows.{turn_of, lines_in, Unlinked, Indexed, taken_row, used, same_place, row_in, slot_count, edge_count, Core, Blank}
 use Rattle.halfedges.specs.Nothing.{nothing_lines, nothing_sound}
 use Rattle.halfedges.proofs.Counted.{count_none, off_zero}
@@ -62,11 +62,8 @@ module _ (rs : List Halfedge) (all : Blank rs) (long : slots ≤ length rs) wher
     found = λ s l u e. absurd (let z = nameless s l u in grind (arith, tell ((seen rs).row s).name (pos 0), z, e));
   }
 
-  blank_roomy : Roomy max_edge slots rs
-  blank_roomy = record { long = long; keyed = omega arith; wide = λ i l. ap (λ r. length r.index) (all i l) }
-
   pub blank_core : Core max_edge slots rs
-  blank_core = record { roomy = blank_roomy; indexed = blank_indexed; sound = subst (Sound max_edge) (sym blank_lines) (nothing_sound max_edge) }
+  blank_core = record { long = long; indexed = blank_indexed; sound = subst (Sound max_edge) (sym blank_lines) (nothing_sound max_edge) }
 
   pub blank_used : used slots (seen rs) ≡ 0
   blank_used = used_none slots (seen rs) nameless

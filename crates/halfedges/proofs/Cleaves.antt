@@ -1,5 +1,5 @@
 -- The rows once an edge is cleft, in four changes of single names. Assumes nothing.
-use Rattle.std.proofs.Common.{◌≡◌, ℕ, suc, ◌+◌, ◌<◌, ◌≤◌, true, false, List, ℤ, pos, neg_ℤ, Some, None, sym, ap, ◌∙◌, subst, ap₂, arith}
+use Rattle.std.proofs.Common.{◌≡◌, ℕ, suc, ◌+◌, ◌<◌, ◌≤◌, true, false, List, length, ℤ, pos, neg_ℤ, Some, None, sym, ap, ◌∙◌, subst, ap₂, arith}
 use Rattle.std.proofs.lemmas.Bool.{cond-false, both_ways}
 use Rattle.flat.specs.Orbits.{indicator}
 use Rattle.flat.specs.Whole.{equal}
@@ -13,7 +13,7 @@ use Rattle.laws.proofs.Equal.{tell}
 use Rattle.laws.proofs.Edges.{neg_same}
 use Rattle.laws.proofs.Cleft.{step₂, step₃, cleave_rotation₀, cleave_held, cleave_fresh₁, cleave_rotation₁, cleave_held₁, cleave_rotation₂, cleave_fresh₃, cleave_rotation₃, cleave_held₃, cleave_fresh₄, cleave_turn, cleave_points, cleave_sound}
 use Rattle.halfedges.specs.declared.halfedge.Halfedge.{Halfedge}
-use Rattle.halfedges.specs.View.{seen, Roomy}
+use Rattle.halfedges.specs.View.{seen}
 use Rattle.halfedges.specs.Rows.{turn_of, points_of, strips_of, lines_in, Unlinked, Indexed, Brought, unhooked, used, same_place, slot_count, Core}
 use Rattle.halfedges.proofs.Meaning.{unhooked_turn, unhooked_points, unhooked_strips, unhooked_indexed, unhooked_used, unhooked_counted, unhooked_unlinked}
 use Rattle.halfedges.proofs.Views.{zero_row}
@@ -94,7 +94,7 @@ module _ (rs : List Halfedge) (core : Core max_edge slots rs) (e f : ℕ) (p q :
             less : (u v w x s : ℕ) → v ≡ suc u → suc w ≡ v → x ≡ suc w → u + 2 ≤ s → x < s
             less u v w x s a b k j = omega arith
 
-        module _ (rs₄ : List Halfedge) (roomy : Roomy max_edge slots rs₄) (fourth : Brought slots west (pos f) (Some (neg_ℤ (pos e))) p (seen rs₃) (seen rs₄)) where
+        module _ (rs₄ : List Halfedge) (long : slots ≤ length rs₄) (fourth : Brought slots west (pos f) (Some (neg_ℤ (pos e))) p (seen rs₃) (seen rs₄)) where
           turn₄ : turn_of (seen rs₄) ≡ (cleft e f p l).turn
           turn₄ = fourth.turn ∙ ap (put_after E (pos f)) turn₃ ∙ cleave_turn max_edge l core.sound e f p q m
 
@@ -112,7 +112,7 @@ module _ (rs : List Halfedge) (core : Core max_edge slots rs) (e f : ℕ) (p q :
 
           pub cleave_core : Core max_edge slots rs₄
           cleave_core = record {
-            roomy = roomy;
+            long = long;
             indexed = fourth.indexed;
             sound = subst (Sound max_edge) (sym cleave_lines) (cleave_sound max_edge l core.sound e f p q m);
           }

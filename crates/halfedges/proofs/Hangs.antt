@@ -1,5 +1,5 @@
 -- The rows once both names of an edge are in. Assumes nothing.
-use Rattle.std.proofs.Common.{◌≡◌, ℕ, suc, ◌+◌, ◌<◌, ◌≤◌, List, ℤ, pos, neg_ℤ, Some, None, Option, sym, ap, ◌∙◌, subst, subst₂, arith}
+use Rattle.std.proofs.Common.{◌≡◌, ℕ, suc, ◌+◌, ◌<◌, ◌≤◌, List, length, ℤ, pos, neg_ℤ, Some, None, Option, sym, ap, ◌∙◌, subst, subst₂, arith}
 use Rattle.flat.specs.Orbits.{indicator}
 use Rattle.turning.specs.Limits.{max_edge, slots}
 use Rattle.chart.specs.declared.point.Point.{Point}
@@ -9,7 +9,7 @@ use Rattle.laws.specs.Keeps.{Sound}
 use Rattle.laws.specs.Rotations.{Rotation, Fresh, Corner, Ends}
 use Rattle.laws.proofs.Hung.{hang_rotation₀, hang_rotation₁, hang_fresh₀, hang_fresh₁, hang_end₁, hang_sound}
 use Rattle.halfedges.specs.declared.halfedge.Halfedge.{Halfedge}
-use Rattle.halfedges.specs.View.{View, seen, Roomy}
+use Rattle.halfedges.specs.View.{View, seen}
 use Rattle.halfedges.specs.Rows.{turn_of, points_of, strips_of, lines_in, Unlinked, CornerHeld, Brought, used, same_place, slot_count, Core}
 
 pub corner_held : (v : View) (c : Option ℤ) (p : Point) → Corner (turn_of v) (points_of v) c p → CornerHeld v c
@@ -51,7 +51,7 @@ module _ (rs : List Halfedge) (core : Core max_edge slots rs) (e : ℕ) (p q : P
         less : (u v s : ℕ) → v ≡ suc u → u + 2 ≤ s → v < s
         less u v s a b = omega arith
 
-    module _ (east : ℕ) (rs₂ : List Halfedge) (roomy : Roomy max_edge slots rs₂) (second : Brought slots east (neg_ℤ (pos e)) d q (seen rs₁) (seen rs₂)) where
+    module _ (east : ℕ) (rs₂ : List Halfedge) (long : slots ≤ length rs₂) (second : Brought slots east (neg_ℤ (pos e)) d q (seen rs₁) (seen rs₂)) where
       turn₂ : turn_of (seen rs₂) ≡ put d (neg_ℤ (pos e)) (put c (pos e) (turn_of (seen rs)))
       turn₂ = second.turn ∙ ap (put d (neg_ℤ (pos e))) first.turn
 
@@ -69,7 +69,7 @@ module _ (rs : List Halfedge) (core : Core max_edge slots rs) (e : ℕ) (p q : P
 
       pub hang_core : Core max_edge slots rs₂
       hang_core = record {
-        roomy = roomy;
+        long = long;
         indexed = second.indexed;
         sound = subst (Sound max_edge) (sym hang_lines) (hang_sound max_edge l core.sound e p q c d m);
       }

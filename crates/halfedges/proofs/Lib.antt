@@ -9,5 +9,6 @@ pub mod Lifts
 pub mod Hangs
 pub mod Cleaves
 pub mod Props
+pub mod Scans
 pub mod Copying
 pub mod Alone

@@ -1,5 +1,5 @@
 -- The rows once both names of an edge are out. Assumes nothing.
-use Rattle.std.proofs.Common.{◌≡◌, ℕ, suc, ◌+◌, true, false, List, ℤ, pos, neg_ℤ, None, sym, ap, ◌∙◌, subst, ap₂, arith}
+use Rattle.std.proofs.Common.{◌≡◌, ℕ, suc, ◌+◌, ◌≤◌, true, false, List, length, ℤ, pos, neg_ℤ, None, sym, ap, ◌∙◌, subst, ap₂, arith}
 use Rattle.std.proofs.lemmas.Bool.{cond-false}
 use Rattle.flat.specs.Orbits.{indicator}
 use Rattle.flat.specs.Whole.{equal}
@@ -10,7 +10,7 @@ use Rattle.laws.specs.Rotations.{Rotation}
 use Rattle.laws.proofs.Equal.{tell}
 use Rattle.laws.proofs.Edges.{rotation_of, held_some, neg_apart, lift_rotation₁, lift_here₁, lift_sound}
 use Rattle.halfedges.specs.declared.halfedge.Halfedge.{Halfedge}
-use Rattle.halfedges.specs.View.{seen, Roomy}
+use Rattle.halfedges.specs.View.{seen}
 use Rattle.halfedges.specs.Rows.{turn_of, points_of, strips_of, lines_in, Unlinked, Indexed, unhooked, used, same_place, slot_count, Core}
 use Rattle.halfedges.proofs.Meaning.{unhooked_turn, unhooked_points, unhooked_strips, unhooked_indexed, unhooked_used, unhooked_counted, unhooked_unlinked}
 use Rattle.halfedges.proofs.Views.{zero_row}
@@ -38,7 +38,7 @@ module _ (rs : List Halfedge) (core : Core max_edge slots rs) (e : ℕ) (here : 
     pub here₁ : (turn_of (seen rs₁)).held (neg_ℤ (pos e)) ≡ true
     here₁ = ap (λ t. t.held (neg_ℤ (pos e))) turn₁ ∙ lift_here₁ max_edge (lines_in (seen rs)) core.sound e here
 
-    module _ (rs₂ : List Halfedge) (roomy : Roomy max_edge slots rs₂) (second : seen rs₂ ≡ unhooked (neg_ℤ (pos e)) (seen rs₁)) where
+    module _ (rs₂ : List Halfedge) (long : slots ≤ length rs₂) (second : seen rs₂ ≡ unhooked (neg_ℤ (pos e)) (seen rs₁)) where
       turn₂ : turn_of (seen rs₂) ≡ (lifted e (lines_in (seen rs))).turn
       turn₂ = ap turn_of second ∙ unhooked_turn slots (seen rs₁) indexed₁ (zero_row max_edge slots rs₁) max_edge rotation₁ (neg_ℤ (pos e)) here₁ ∙ ap (drawn (neg_ℤ (pos e))) turn₁
 
@@ -59,7 +59,7 @@ module _ (rs : List Halfedge) (core : Core max_edge slots rs) (e : ℕ) (here : 
 
       pub lift_core : Core max_edge slots rs₂
       lift_core = record {
-        roomy = roomy;
+        long = long;
         indexed = subst (Indexed slots) (sym second) (unhooked_indexed slots (seen rs₁) indexed₁ (zero_row max_edge slots rs₁) max_edge rotation₁ (neg_ℤ (pos e)) here₁);
         sound = subst (Sound max_edge) (sym lift_lines) (lift_sound max_edge (lines_in (seen rs)) core.sound e here);
       }

@@ -8,15 +8,8 @@ use lib.IntN.{ℤ_set}
 use Rattle.turning.specs.Props.{lawful_prop}
 use Rattle.chart.proofs.Props.{placed_prop}
 use Rattle.halfedges.specs.declared.halfedge.Halfedge.{Halfedge}
-use Rattle.halfedges.specs.View.{View, view, Roomy}
+use Rattle.halfedges.specs.View.{View, view}
 use Rattle.halfedges.specs.Rows.{turn_of, points_of, Indexed, Core}
-
-roomy_prop : (n cap : ℕ) (rs : List Halfedge) → IsProp (Roomy n cap rs)
-roomy_prop n cap rs p q = λ i. record {
-  long = le_prop p.long q.long i;
-  keyed = le_prop p.keyed q.keyed i;
-  wide = λ j l. hedberg ℕ_discrete _ _ (p.wide j l) (q.wide j l) i;
-}
 
 indexed_prop : (cap : ℕ) (v : View) → IsProp (Indexed cap v)
 indexed_prop cap v p q = λ i. record {
@@ -27,7 +20,7 @@ indexed_prop cap v p q = λ i. record {
 
 pub core_prop : (n cap : ℕ) (rs : List Halfedge) → IsProp (Core n cap rs)
 core_prop n cap rs p q = λ i. record {
-  roomy = roomy_prop n cap rs p.roomy q.roomy i;
+  long = le_prop p.long q.long i;
   indexed = indexed_prop cap (view n cap rs) p.indexed q.indexed i;
   sound = (
     lawful_prop n (turn_of (view n cap rs)) p.sound.0 q.sound.0 i,

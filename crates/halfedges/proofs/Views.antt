@@ -1,5 +1,5 @@
 -- What one write does to the two maps. Assumes nothing.
-use Rattle.std.proofs.Common.{◌≡◌, ℕ, zero, suc, ◌+◌, ◌/◌, ◌%◌, ◌<◌, ◌≤◌, Bool, true, false, cond, ◌&&◌, eqb, leb, ◌≢◌, ◌⊎◌, List, length, get_or, set, ℤ, pos, negsuc, ◌+ℤ◌, neg_ℤ, nat_abs, ◌≤ℤ◌, sym, refl, ap, ◌∙◌, inl, inr, arith}
+use Rattle.std.proofs.Common.{◌≡◌, ℕ, zero, suc, ◌+◌, ◌*◌, ◌/◌, ◌%◌, ◌<◌, ◌≤◌, Bool, true, false, cond, ◌&&◌, eqb, leb, ◌≢◌, ◌⊎◌, List, length, get_or, set, ℤ, pos, negsuc, ◌+ℤ◌, neg_ℤ, nat_abs, ◌≤ℤ◌, sym, refl, ap, ◌∙◌, inl, inr, arith}
 use Rattle.std.proofs.lemmas.List.{get_or-set_same, get_or-set_other, length-set}
 use Rattle.std.proofs.lemmas.Int.{ints}
 use Rattle.std.proofs.lemmas.Bool.{cond-true, cond-false, cases_eq, le-leb}
@@ -7,7 +7,7 @@ use Rattle.std.proofs.lemmas.Bool.Decides.{eqb_tells, leb_tells}
 use Rattle.chart.specs.Changes.{at}
 use Rattle.laws.proofs.Equal.{tell, Tells}
 use Rattle.halfedges.specs.declared.halfedge.Halfedge.{Halfedge}
-use Rattle.halfedges.specs.View.{none, bare, key, is_name, entry_at, row_at, view, Roomy, written, noted}
+use Rattle.halfedges.specs.View.{none, bare, key, is_name, entry_at, row_at, view, written, noted}
 
 pub name_is : (n : ℕ) (h : ℤ) → neg_ℤ (pos n) ≤ℤ h → h ≤ℤ pos n → is_name n h ≡ true
 name_is n h a b = grind (arith, ints)
@@ -87,12 +87,6 @@ module _ (n cap : ℕ) (rs : List Halfedge) (i : ℕ) (r : Halfedge) (l : i < le
   unfolding view
   write_view = λ d. record { entry = λ h. cond (leb cap (length-set rs i r d) && is_name n h) (write_entry (key n h) d) 0; row = λ j. write_row j d }
 
-  pub write_roomy : Roomy n cap rs → Roomy n cap (set rs i r)
-  write_roomy o =
-      let s = length-set rs i r in
-      let a = o.long in
-      record { long = omega arith; keyed = o.keyed; wide = λ j m. ap length (write_index j) ∙ o.wide j (omega arith) }
-
 -- ---- an entry is noted
 abbrev pub with_entry : ℕ → ℕ → Halfedge → Halfedge
 with_entry j v r = record { strip = r.strip; name = r.name; follower = r.follower; predecessor = r.predecessor; x = r.x; y = r.y; index = set r.index j v }
@@ -129,27 +123,15 @@ module _ (rs : List Halfedge) (k v : ℕ) (l : k / 3 < length rs) (w : length (g
       go (inl e) = ap (λ x. bare (get_or (note_at rs k v) x none)) e ∙ ap bare (get_or-set_same rs (k / 3) _ none l) ∙ ap (λ x. bare (get_or rs x none)) (sym e)
       go (inr d) = ap bare (get_or-set_other rs (k / 3) j _ none d)
 
-  note_wide : (j : ℕ) → length (get_or (note_at rs k v) j none).index ≡ length (get_or rs j none).index
-  note_wide j = go (cases_eq j (k / 3))
-    where
-      go : (j ≡ k / 3) ⊎ (j ≢ k / 3) → length (get_or (note_at rs k v) j none).index ≡ length (get_or rs j none).index
-      go (inl e) =
-          ap (λ x. length (get_or (note_at rs k v) x none).index) e ∙ ap (λ x. length x.index) (get_or-set_same rs (k / 3) _ none l)
-          ∙ length-set (get_or rs (k / 3) none).index (k % 3) v ∙ ap (λ x. length (get_or rs x none).index) (sym e)
-      go (inr d) = ap (λ x. length x.index) (get_or-set_other rs (k / 3) j _ none d)
-
-module _ (n cap : ℕ) (rs : List Halfedge) (o : Roomy n cap rs) (h : ℤ) (v : ℕ) (a : neg_ℤ (pos n) ≤ℤ h) (b : h ≤ℤ pos n) where
+module _ (n cap : ℕ) (rs : List Halfedge) (long : cap ≤ length rs) (keyed : suc (n + n) ≤ 3 * cap) (h : ℤ) (v : ℕ) (a : neg_ℤ (pos n) ≤ℤ h) (b : h ≤ℤ pos n) (wide : length (get_or rs (key n h / 3) none).index ≡ 3) where
   pub key_inside : key n h / 3 < length rs
-  key_inside = let k = key_below n h a b in let p = o.long in let q = o.keyed in omega arith
-
-  wide : length (get_or rs (key n h / 3) none).index ≡ 3
-  wide = o.wide (key n h / 3) key_inside
+  key_inside = let k = key_below n h a b in omega arith
 
   note_entry : (g : ℤ) → (view n cap (note_at rs (key n h) v)).entry g ≡ at h v (view n cap rs).entry g
   note_entry g = go (tell g h) (is_name n g) refl
     where
       long' : cap ≤ length (note_at rs (key n h) v)
-      long' = let s = length-set rs (key n h / 3) (with_entry (key n h % 3) v (get_or rs (key n h / 3) none)) in let p = o.long in omega arith
+      long' = let s = length-set rs (key n h / 3) (with_entry (key n h % 3) v (get_or rs (key n h / 3) none)) in omega arith
 
       go : Tells g h → (t : Bool) → is_name n g ≡ t → (view n cap (note_at rs (key n h) v)).entry g ≡ at h v (view n cap rs).entry g
       go (inl e) t s =
@@ -157,7 +139,7 @@ module _ (n cap : ℕ) (rs : List Halfedge) (o : Roomy n cap rs) (h : ℤ) (v : 
       go (inr e) true s =
           entry_in n cap (note_at rs (key n h) v) long' g s
           ∙ note_other rs (key n h) v key_inside wide (key n g) (λ z. e.1 (key_apart n g h (name_low n g s) (name_high n g s) a b z))
-          ∙ sym (entry_in n cap rs o.long g s) ∙ sym (cond-false _ _ _ e.0)
+          ∙ sym (entry_in n cap rs long g s) ∙ sym (cond-false _ _ _ e.0)
       go (inr e) false s = entry_out n cap (note_at rs (key n h) v) g s ∙ sym (entry_out n cap rs g s) ∙ sym (cond-false _ _ _ e.0)
 
   note_rows : (j : ℕ) → (view n cap (note_at rs (key n h) v)).row j ≡ (view n cap rs).row j
@@ -166,9 +148,3 @@ module _ (n cap : ℕ) (rs : List Halfedge) (o : Roomy n cap rs) (h : ℤ) (v : 
 
   pub note_view : view n cap (note_at rs (key n h) v) ≡ noted h v (view n cap rs)
   note_view = λ d. record { entry = λ g. note_entry g d; row = λ j. note_rows j d }
-
-  pub note_roomy : Roomy n cap (note_at rs (key n h) v)
-  note_roomy =
-      let s = length-set rs (key n h / 3) (with_entry (key n h % 3) v (get_or rs (key n h / 3) none)) in
-      let p = o.long in
-      record { long = omega arith; keyed = o.keyed; wide = λ j m. note_wide rs (key n h) v key_inside wide j ∙ o.wide j (omega arith) }

@@ -10,7 +10,7 @@ use Rattle.chart.specs.Changes.{at, put}
 use Rattle.chart.specs.Linework.{Linework}
 use Rattle.laws.specs.Keeps.{Sound}
 use Rattle.halfedges.specs.declared.halfedge.Halfedge.{Halfedge}
-use Rattle.halfedges.specs.View.{View, none, view, Roomy, row_of, written, noted, led, trailed}
+use Rattle.halfedges.specs.View.{View, none, view, row_of, written, noted, led, trailed}
 
 -- the turning: a name is held where the index has a slot for it
 abbrev pub turn_of : View → Turn
@@ -132,7 +132,7 @@ pub record Planted (cap m : ℕ) (c : ℕ → ℤ → ℕ) (v v' : View) : Type 
 -- ---- whole memories
 -- the records are enough, the index is right, and the line work is lawful and placed
 pub record Core (n cap : ℕ) (rs : List Halfedge) : Type 0 where
-  pub roomy : Roomy n cap rs
+  pub long : cap ≤ length rs
   pub indexed : Indexed cap (view n cap rs)
   pub sound : Sound n (lines_in (view n cap rs))
 

@@ -1,6 +1,6 @@
 -- The lent records seen as two maps: from a name to its slot, and from a slot to its row. Slots are counted from 1, and 0 is no slot.
 -- Assumes nothing.
-use Rattle.std.specs.Prelude.{◌≡◌, ℕ, zero, suc, ◌+◌, ◌-◌, ◌*◌, ◌/◌, ◌%◌, ◌<◌, ◌≤◌, Bool, cond, ◌&&◌, List, [], length, get_or, ℤ, pos, negsuc, neg_ℤ, ◌==◌, int_le, nat_le, slice_index, slice_index_or}
+use Rattle.std.specs.Prelude.{ℕ, zero, suc, ◌+◌, ◌-◌, ◌/◌, ◌%◌, Bool, cond, ◌&&◌, List, [], length, get_or, ℤ, pos, negsuc, neg_ℤ, ◌==◌, int_le, nat_le, slice_index, slice_index_or}
 use Rattle.turning.specs.Limits.{max_edge, slots}
 use Rattle.chart.specs.Changes.{at}
 use Rattle.halfedges.specs.declared.halfedge.Halfedge.{Halfedge}
@@ -43,16 +43,6 @@ view n cap rs = record { entry = λ h. cond (nat_le cap (length rs) && is_name n
 -- the same at the limits
 abbrev pub seen : List Halfedge → View
 seen rs = view max_edge slots rs
-
--- there are enough records, and each has three entries
-pub record Roomy (n cap : ℕ) (rs : List Halfedge) : Type 0 where
-  pub long : cap ≤ length rs
-  pub keyed : suc (n + n) ≤ 3 * cap
-  pub wide : (i : ℕ) → i < length rs → length (get_or rs i none).index ≡ 3
-
--- a memory that is long enough has three entries in each record
-abbrev pub Lent : ℕ → ℕ → List Halfedge → Type 0
-Lent n cap rs = cap ≤ length rs → Roomy n cap rs
 
 -- ---- what the code does to them
 -- slot s gets the row r

@@ -2,54 +2,35 @@
 ghost use Rattle.std.specs.Prelude.{◌≡◌, ℕ, ◌+◌, ◌*◌, ◌≤◌, false, ◌&&◌, length, ℤ, pos, neg_ℤ, ◌≤ℤ◌, ◌==◌, ◌≢◌};
 ghost use Rattle.flat.specs.Orbits.{indicator};
 ghost use Rattle.turning.specs.Limits.{max_edge, slots};
-ghost use Rattle.chart.specs.declared.point.Point.{Point};
 ghost use Rattle.chart.specs.Linework.{lines_of};
-ghost use Rattle.halfedges.specs.View.{none, seen, Roomy};
+ghost use Rattle.halfedges.specs.View.{none, seen};
 ghost use Rattle.halfedges.specs.Rows.{lines_in, home, settled, used, slot_count, edge_count, Blank, Core};
-ghost use Rattle.halfedges.specs.Copies.{point_or_origin, row_for, copied_edge, Copied};
+ghost use Rattle.halfedges.specs.Copies.{row_for, copied_edge, Copied};
 
 use crate::halfedge::{Halfedge, Rows};
 use crate::slots::{free_all, note, write};
 use chart::Chart;
 use chart::asks::holds_edge;
-use chart::point::Point;
 use turning::Turning;
 use turning::limits::MAX_EDGE;
 
-// The number of edges of any turning.
+// The number of edges of any turning, by a range without its last number, with which std's lemmas on chains begin.
 pub fn count_edges<T: Turning>(t: &T) -> u16
     ensures { result ≡ edge_count max_edge (T.Turning.turn t.now) }
 {
-    let mut count = 0;
-    for e in 1..=MAX_EDGE {
-        if holds_edge(t, e) {
-            count += 1;
-        }
-    }
-    count
-}
-
-// The point that is told, or the origin where none is.
-fn point_or_origin(told: Option<Point>) -> Point
-    ensures { result ≡ point_or_origin told }
-{
-    match told {
-        None => Point { x: 0, y: 0 },
-        Some(p) => p,
-    }
+    (1..MAX_EDGE + 1).filter(|&e| holds_edge(t, e)).count() as u16
 }
 
 // Writes the row of one name at a slot, and notes the slot.
 fn copy_name<C: Chart>(rows: &mut [Halfedge], slot: usize, chart: &C, h: i16)
-    requires roomy { Roomy max_edge slots rows.old }
+    requires long { slots ≤ length rows.old }
     requires low { 1 ≤ slot }
     requires high { slot ≤ slots }
     requires least { neg_ℤ (pos max_edge) ≤ℤ h }
     requires most { h ≤ℤ pos max_edge }
-    ensures view { seen rows.new ≡ settled slot h (row_for (lines_of C.Turning.turn C.Chart.points chart.now) h) (seen rows.old) }
-    ensures roomy { Roomy max_edge slots rows.new }
+    ensures { seen rows.new ≡ settled slot h (row_for (lines_of C.Turning.turn C.Chart.points chart.now) h) (seen rows.old) }
 {
-    let at = point_or_origin(chart.point(h));
+    let at = chart.point(h).unwrap_or_default();
     let row = Halfedge {
         strip: 1,
         name: h,
@@ -65,11 +46,10 @@ fn copy_name<C: Chart>(rows: &mut [Halfedge], slot: usize, chart: &C, h: i16)
 
 // Writes the rows of both names of an edge at the two slots after the filled ones.
 fn copy_edge<C: Chart>(rows: &mut [Halfedge], filled: usize, chart: &C, edge: u16)
-    requires roomy { Roomy max_edge slots rows.old }
+    requires long { slots ≤ length rows.old }
     requires room { filled + 2 ≤ slots }
     requires number { edge ≤ max_edge }
-    ensures view { seen rows.new ≡ copied_edge (lines_of C.Turning.turn C.Chart.points chart.now) edge filled (seen rows.old) }
-    ensures roomy { Roomy max_edge slots rows.new }
+    ensures { seen rows.new ≡ copied_edge (lines_of C.Turning.turn C.Chart.points chart.now) edge filled (seen rows.old) }
 {
     copy_name(rows, filled + 1, chart, edge as i16);
     copy_name(rows, filled + 2, chart, -(edge as i16));
@@ -80,8 +60,7 @@ fn copy_edges<C: Chart>(rows: &mut [Halfedge], chart: &C)
     requires blank { Blank rows.old }
     requires long { slots ≤ length rows.old }
     requires room { 2 * edge_count max_edge (C.Turning.turn chart.now) ≤ slots }
-    ensures copied { Copied (lines_of C.Turning.turn C.Chart.points chart.now) (C.Turning.turn chart.now).held (2 * edge_count max_edge (C.Turning.turn chart.now)) (seen rows.new) }
-    ensures roomy { Roomy max_edge slots rows.new }
+    ensures { Copied (lines_of C.Turning.turn C.Chart.points chart.now) (C.Turning.turn chart.now).held (2 * edge_count max_edge (C.Turning.turn chart.now)) (seen rows.new) }
 {
     let mut filled = 0;
     for e in 1..=MAX_EDGE {

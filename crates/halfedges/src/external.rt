@@ -1,9 +1,9 @@
 // External rows: the slots of a halfedge in the strips that its edge runs through, beside the strip where it starts.
 // Such a row has a strip and a name alone, and the index does not lead to it.
-ghost use Rattle.std.specs.Prelude.{◌≡◌, ℕ, ◌+◌, ◌-◌, ◌*◌, ◌<◌, ◌≤◌, true, ℤ, pos, neg_ℤ, ◌≢◌};
+ghost use Rattle.std.specs.Prelude.{◌≡◌, ℕ, ◌+◌, ◌-◌, ◌*◌, ◌<◌, ◌≤◌, true, length, ℤ, pos, neg_ℤ, ◌≢◌};
 ghost use Rattle.flat.specs.Orbits.{indicator};
 ghost use Rattle.turning.specs.Limits.{max_edge, slots};
-ghost use Rattle.halfedges.specs.View.{seen, Roomy};
+ghost use Rattle.halfedges.specs.View.{seen};
 ghost use Rattle.halfedges.specs.Rows.{turn_of, strips_of, Packed, used, Unlinked, same_place, row_in, slot_count, externals, Planted, Core};
 
 use crate::halfedge::{FREE, Halfedge};
@@ -12,18 +12,16 @@ use turning::limits::SLOTS;
 
 // A slot of the name k in the strip, where there is one.
 fn find_slot(rows: &[Halfedge], strip: u16, k: i16) -> usize
-    requires roomy { Roomy max_edge slots rows.now }
+    requires long { slots ≤ length rows.now }
     requires there { 1 ≤ slot_count slots (seen rows.now) strip k }
     ensures low { 1 ≤ result }
     ensures high { result ≤ slots }
     ensures found { row_in (seen rows.now) strip k result ≡ true }
 {
-    for i in 0..SLOTS {
-        if rows[i].name == k && rows[i].strip == strip {
-            return i + 1;
-        }
-    }
-    0
+    let first = rows[..SLOTS]
+        .iter()
+        .position(|r| r.name == k && r.strip == strip);
+    first.unwrap() + 1
 }
 
 // Puts an external row of the name k into the strip, at any free slot.

@@ -1,3 +1,7 @@
+// The record of the lent memory, and the memory as it is lent.
+use turning::limits::SLOTS;
+use turning::refusal::Refusal;
+
 // One record of the lent memory: a halfedge in one strip, or nothing where the name is 0. Its links are names, 0 for none.
 // Beside it stand three entries of the index that all the records make up together.
 #[derive(Clone, Copy)]
@@ -22,8 +26,51 @@ pub const FREE: Halfedge = Halfedge {
     index: [0; 3],
 };
 
-// The records as they are lent, with nothing known of them.
+// The records as they are lent. A memory that is too short holds nothing, and is left as it is.
+// No ghost field says what holds of them: it holds between changes alone, and of a memory that is long enough, which the stores say.
+// A struct for the inside of a change, made of a part of the loan, was tried: a call may set its field to other records, so its maker learns nothing of these (the goal `returns`).
 #[derive(Drop)]
 pub struct Rows<'a> {
     pub at: &'a mut [Halfedge],
+}
+
+impl<'a> Rows<'a> {
+    ghost use Rattle.std.specs.Prelude.{◌≡◌, ◌<◌, ◌≤◌, [], ◌∷◌, length, nat_le};
+    ghost use Rattle.turning.specs.Limits.{slots};
+    ghost use Rattle.turning.specs.Refusals.{asked};
+    ghost use Rattle.turning.specs.declared.refusal.Refusal.TheVariants.{ShortMemory};
+    ghost use Rattle.halfedges.specs.Rows.{Blank};
+
+    // The memory with every record freed, whatever it held.
+    pub fn new(memory: &'a mut [Halfedge]) -> Rows<'a>
+        ensures freed { slots ≤ length memory.old → Blank result.at.now }
+        ensures length { length result.at.now ≡ length memory.old }
+        ensures left { length memory.old < slots → result.at.now ≡ memory.old }
+    {
+        if memory.len() >= SLOTS {
+            memory.fill(FREE);
+        }
+        Rows { at: memory }
+    }
+
+    // Frees every record.
+    pub fn clear(&mut self)
+        ensures freed { slots ≤ length self.old.at.now → Blank self.new.at.now }
+        ensures length { length self.new.at.now ≡ length self.old.at.now }
+        ensures left { length self.old.at.now < slots → self.new.at.now ≡ self.old.at.now }
+    {
+        if self.at.len() >= SLOTS {
+            self.at.fill(FREE);
+        }
+    }
+
+    // Are there enough records?
+    pub fn ready(&self) -> Result<(), Refusal>
+        ensures { result ≡ asked ((nat_le slots (length self.now.at.now), ShortMemory) ∷ []) tt }
+    {
+        if self.at.len() < SLOTS {
+            return Err(Refusal::ShortMemory);
+        }
+        Ok(())
+    }
 }

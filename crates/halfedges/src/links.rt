@@ -1,9 +1,9 @@
 // The links of one name at a time: what leads to what, and a name that comes in or goes out.
-ghost use Rattle.std.specs.Prelude.{◌≡◌, ◌<◌, ◌≤◌, true, ℤ, pos, neg_ℤ, ◌≤ℤ◌, Option};
+ghost use Rattle.std.specs.Prelude.{◌≡◌, ◌<◌, ◌≤◌, true, length, ℤ, pos, neg_ℤ, ◌≤ℤ◌, Option};
 ghost use Rattle.turning.specs.Limits.{max_edge, slots};
 ghost use Rattle.chart.specs.declared.point.Point.{Point};
 ghost use Rattle.laws.specs.Rotations.{Rotation, Fresh};
-ghost use Rattle.halfedges.specs.View.{bare, seen, Roomy, led, trailed};
+ghost use Rattle.halfedges.specs.View.{bare, seen, led, trailed};
 ghost use Rattle.halfedges.specs.Rows.{turn_of, Indexed, unhooked, settled, hooked, CornerHeld, Brought, used};
 
 use crate::halfedge::{FREE, Halfedge};
@@ -12,11 +12,10 @@ use chart::point::Point;
 
 // Makes f the follower of the name h.
 fn set_follower(rows: &mut [Halfedge], h: i16, f: i16)
-    requires roomy { Roomy max_edge slots rows.old }
+    requires long { slots ≤ length rows.old }
     requires indexed { Indexed slots (seen rows.old) }
     requires here { (turn_of (seen rows.old)).held h ≡ true }
-    ensures view { seen rows.new ≡ led h f (seen rows.old) }
-    ensures roomy { Roomy max_edge slots rows.new }
+    ensures { seen rows.new ≡ led h f (seen rows.old) }
 {
     let s = slot(rows, h);
     rows[s - 1].follower = f;
@@ -24,11 +23,10 @@ fn set_follower(rows: &mut [Halfedge], h: i16, f: i16)
 
 // Makes p the predecessor of the name h.
 fn set_predecessor(rows: &mut [Halfedge], h: i16, p: i16)
-    requires roomy { Roomy max_edge slots rows.old }
+    requires long { slots ≤ length rows.old }
     requires indexed { Indexed slots (seen rows.old) }
     requires here { (turn_of (seen rows.old)).held h ≡ true }
-    ensures view { seen rows.new ≡ trailed h p (seen rows.old) }
-    ensures roomy { Roomy max_edge slots rows.new }
+    ensures { seen rows.new ≡ trailed h p (seen rows.old) }
 {
     let s = slot(rows, h);
     rows[s - 1].predecessor = p;
@@ -36,12 +34,11 @@ fn set_predecessor(rows: &mut [Halfedge], h: i16, p: i16)
 
 // Takes the name h out of its round, and frees its row.
 pub fn unhook(rows: &mut [Halfedge], h: i16)
-    requires roomy { Roomy max_edge slots rows.old }
+    requires long { slots ≤ length rows.old }
     requires indexed { Indexed slots (seen rows.old) }
     requires rotation { Rotation max_edge (turn_of (seen rows.old)) }
     requires here { (turn_of (seen rows.old)).held h ≡ true }
-    ensures view { seen rows.new ≡ unhooked h (seen rows.old) }
-    ensures roomy { Roomy max_edge slots rows.new }
+    ensures { seen rows.new ≡ unhooked h (seen rows.old) }
 {
     let s = slot(rows, h);
     let r = read(rows, s);
@@ -53,13 +50,12 @@ pub fn unhook(rows: &mut [Halfedge], h: i16)
 
 // Puts a row at a slot, and notes the slot under the row's name.
 fn settle(rows: &mut [Halfedge], s: usize, r: Halfedge)
-    requires roomy { Roomy max_edge slots rows.old }
+    requires long { slots ≤ length rows.old }
     requires low { 1 ≤ s }
     requires high { s ≤ slots }
     requires least { neg_ℤ (pos max_edge) ≤ℤ r.name }
     requires most { r.name ≤ℤ pos max_edge }
-    ensures view { seen rows.new ≡ settled s r.name (bare r) (seen rows.old) }
-    ensures roomy { Roomy max_edge slots rows.new }
+    ensures { seen rows.new ≡ settled s r.name (bare r) (seen rows.old) }
 {
     write(rows, s, r);
     note(rows, r.name, s as u16);
@@ -67,15 +63,14 @@ fn settle(rows: &mut [Halfedge], s: usize, r: Halfedge)
 
 // Brings the name k in at a free slot, directly after its corner, or alone where it has none.
 fn hook(rows: &mut [Halfedge], s: usize, strip: u16, k: i16, corner: Option<i16>, at: Point)
-    requires roomy { Roomy max_edge slots rows.old }
+    requires long { slots ≤ length rows.old }
     requires indexed { Indexed slots (seen rows.old) }
     requires rotation { Rotation max_edge (turn_of (seen rows.old)) }
     requires low { 1 ≤ s }
     requires high { s ≤ slots }
     requires fresh { Fresh max_edge (turn_of (seen rows.old)) k }
     requires corner { CornerHeld (seen rows.old) corner }
-    ensures view { seen rows.new ≡ hooked s strip k corner at (seen rows.old) }
-    ensures roomy { Roomy max_edge slots rows.new }
+    ensures { seen rows.new ≡ hooked s strip k corner at (seen rows.old) }
 {
     let row = Halfedge {
         strip,
@@ -108,14 +103,13 @@ fn hook(rows: &mut [Halfedge], s: usize, strip: u16, k: i16, corner: Option<i16>
 
 // Brings the name k in at any free slot, directly after its corner, or alone where it has none.
 pub fn bring(rows: &mut [Halfedge], strip: u16, k: i16, corner: Option<i16>, at: Point)
-    requires roomy { Roomy max_edge slots rows.old }
+    requires long { slots ≤ length rows.old }
     requires indexed { Indexed slots (seen rows.old) }
     requires rotation { Rotation max_edge (turn_of (seen rows.old)) }
     requires room { used slots (seen rows.old) < slots }
     requires fresh { Fresh max_edge (turn_of (seen rows.old)) k }
     requires corner { CornerHeld (seen rows.old) corner }
-    ensures brought { Brought slots strip k corner at (seen rows.old) (seen rows.new) }
-    ensures roomy { Roomy max_edge slots rows.new }
+    ensures { Brought slots strip k corner at (seen rows.old) (seen rows.new) }
 {
     let s = free_slot(rows);
     hook(rows, s, strip, k, corner, at);

@@ -1,7 +1,7 @@
 // All rows by their strips: the external rows go, and a row moves to another strip.
-ghost use Rattle.std.specs.Prelude.{◌≡◌, ◌≤◌};
+ghost use Rattle.std.specs.Prelude.{◌≡◌, ◌≤◌, length};
 ghost use Rattle.turning.specs.Limits.{max_edge, slots};
-ghost use Rattle.halfedges.specs.View.{seen, Roomy, written};
+ghost use Rattle.halfedges.specs.View.{seen, written};
 ghost use Rattle.halfedges.specs.Rows.{strips_of, lines_in, Core};
 ghost use Rattle.halfedges.specs.Homes.{HomesAlone, with_strip};
 
@@ -26,11 +26,10 @@ pub fn drop_external(rows: &mut [Halfedge])
 
 // Moves the row at a slot to another strip.
 pub fn set_strip(rows: &mut [Halfedge], s: usize, strip: u16)
-    requires roomy { Roomy max_edge slots rows.old }
+    requires long { slots ≤ length rows.old }
     requires low { 1 ≤ s }
     requires high { s ≤ slots }
-    ensures view { seen rows.new ≡ written s (with_strip strip ((seen rows.old).row s)) (seen rows.old) }
-    ensures roomy { Roomy max_edge slots rows.new }
+    ensures { seen rows.new ≡ written s (with_strip strip ((seen rows.old).row s)) (seen rows.old) }
 {
     rows[s - 1].strip = strip;
 }

@@ -9,7 +9,8 @@ use Rattle.chart.specs.declared.point.Point.{Point}
 use Rattle.chart.specs.declared.point.End.{End}
 use Rattle.chart.specs.Linework.{Linework, no_lines}
 use Rattle.chart.specs.Changes.{put, western, eastern, hung, lifted, cleft}
-use Rattle.edits.specs.Edits.{Edit, starts, sprouts, joins, splits, removes, made, new_end, corner_end}
+use Rattle.chart.specs.Ends.{new_end}
+use Rattle.edits.specs.Edits.{Edit, starts, sprouts, joins, splits, removes, made, corner_end}
 use Rattle.file.specs.Places.{at, each, first_from}
 use Rattle.file.specs.Strips.{Strip, home}
 use Rattle.file.specs.Layout.{strips, strip}

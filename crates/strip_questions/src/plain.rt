@@ -64,7 +64,7 @@ fn point_new(s: Strip<'_>, k: u16) -> bool
     ensures { result ≡ point_new (told s.entry) k }
 {
     let here = s.point(k);
-    first_no(k, |m| !s.point(m).is_same(here)).is_none()
+    first_no(k, |m| s.point(m) != here).is_none()
 }
 
 // Question 12, of one strip.

@@ -18,7 +18,7 @@ use Rattle.laws.specs.Rotations.{Ends, Cuts}
 use Rattle.laws.proofs.Cleft.{cleave_cuts}
 use Rattle.laws.proofs.Hung.{hang_ends}
 use Rattle.halfedges.specs.declared.halfedge.Halfedge.{Halfedge}
-use Rattle.halfedges.specs.View.{seen, Lent}
+use Rattle.halfedges.specs.View.{seen}
 use Rattle.halfedges.specs.Rows.{turn_of, points_of, lines_in, used, Blank}
 use Rattle.halfedges.specs.Nothing.{short_lines, nothing_sound}
 use Rattle.halfedges.proofs.Blank.{none_held, blank_lines, blank_core, blank_used, blank_slots, blank_unlinked}
@@ -42,9 +42,6 @@ kept_prop bs rs p q = λ i l. stripped_prop bs rs (p l) (q l) i
 pub kept_out : (bs : List ℤ) (rs : List Halfedge) → ∥ Kept bs rs ∥₁ → Kept bs rs
 kept_out bs rs p = ∥∥₁_elim p (kept_prop bs rs) (λ k. k)
 
-pub kept_lent : (bs : List ℤ) (rs : List Halfedge) → ∥ Kept bs rs ∥₁ → Lent max_edge slots rs
-kept_lent bs rs p l = (kept_out bs rs p l).core.roomy
-
 pub kept_sound : (bs : List ℤ) (rs : List Halfedge) → ∥ Kept bs rs ∥₁ → Sound max_edge (lines_in (seen rs))
 kept_sound bs rs p = go (leb slots (length rs)) refl
   where
@@ -62,7 +59,7 @@ held_long rs h e = go (leb slots (length rs)) refl
 
 -- a memory that is long enough before a change and after it has all its slots
 pub same_frame : (bs : List ℤ) (rs rs' : List Halfedge) → slots ≤ length rs → Stripped max_edge slots bs rs' → frame_of bs rs' ≡ frame_of bs rs
-same_frame bs rs rs' long after = ap (λ (k : ℕ). record { borders = bs; slots = k }) (whole rs' after.core.roomy.long ∙ sym (whole rs long))
+same_frame bs rs rs' long after = ap (λ (k : ℕ). record { borders = bs; slots = k }) (whole rs' after.core.long ∙ sym (whole rs long))
   where
     whole : (rs : List Halfedge) → slots ≤ length rs → room_of rs ≡ slots
     whole rs l = cond-true (leb slots (length rs)) slots 0 (le-leb _ _ l)

@@ -16,7 +16,7 @@ use Rattle.laws.proofs.Edges.{rotation_of, held_some}
 use Rattle.laws.proofs.Equal.{tell}
 use Rattle.laws.proofs.Hung.{hang_ends}
 use Rattle.halfedges.specs.declared.halfedge.Halfedge.{Halfedge}
-use Rattle.halfedges.specs.View.{seen, Lent}
+use Rattle.halfedges.specs.View.{seen}
 use Rattle.halfedges.specs.Rows.{turn_of, points_of, lines_in, used, edge_count, Core, hung_between}
 use Rattle.halfedges.specs.Nothing.{short_lines, nothing_sound}
 use Rattle.halfedges.proofs.EdgeCount.{edge_more, edge_less, held_put}
@@ -31,9 +31,6 @@ kept_prop rs p q = λ i l. record {
 
 pub kept_out : (rs : List Halfedge) → ∥ Kept rs ∥₁ → Kept rs
 kept_out rs p = ∥∥₁_elim p (kept_prop rs) (λ k. k)
-
-pub kept_lent : (rs : List Halfedge) → ∥ Kept rs ∥₁ → Lent max_edge slots rs
-kept_lent rs p l = (kept_out rs p l).core.roomy
 
 pub kept_sound : (rs : List Halfedge) → ∥ Kept rs ∥₁ → Sound max_edge (lines_in (seen rs))
 kept_sound rs p = go (leb slots (length rs)) refl
@@ -117,7 +114,7 @@ held_long rs h e = go (leb slots (length rs)) refl
 
 -- a memory that is long enough before a change and after it has all its slots
 pub same_frame : (rs rs' : List Halfedge) → slots ≤ length rs → Core max_edge slots rs' → frame_of rs' ≡ frame_of rs
-same_frame rs rs' long after = ap (λ (k : ℕ). record { borders = []; slots = k }) (whole rs' after.roomy.long ∙ sym (whole rs long))
+same_frame rs rs' long after = ap (λ (k : ℕ). record { borders = []; slots = k }) (whole rs' after.long ∙ sym (whole rs long))
   where
     whole : (rs : List Halfedge) → slots ≤ length rs → room_of rs ≡ slots
     whole rs l = cond-true (leb slots (length rs)) slots 0 (le-leb _ _ l)

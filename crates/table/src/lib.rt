@@ -41,11 +41,8 @@ impl<'a> Table<'a> {
         ensures length { length result.rows.at.now ≡ length memory.old }
         ensures left { length memory.old < slots → result.rows.at.now ≡ memory.old }
     {
-        if memory.len() >= SLOTS {
-            slots::free_all(memory);
-        }
         Table {
-            rows: Rows { at: memory },
+            rows: Rows::new(memory),
         }
     }
 
@@ -53,10 +50,7 @@ impl<'a> Table<'a> {
     pub fn ready(&self) -> Result<(), Refusal>
         ensures { result ≡ asked ((nat_le slots (length self.now.rows.at.now), ShortMemory) ∷ []) tt }
     {
-        if self.rows.at.len() < SLOTS {
-            return Err(Refusal::ShortMemory);
-        }
-        Ok(())
+        self.rows.ready()
     }
 
     // Do two more slots fit?
@@ -67,6 +61,7 @@ impl<'a> Table<'a> {
     }
 }
 
+// One line each over the lent records, as a struct below with its own impls would leave it: a table still has to pass every method on.
 impl Turning for Table<'_> {
     ghost turn = { λ t. turn_of (seen t.rows.at.now) };
 

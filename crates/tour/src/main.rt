@@ -7,7 +7,6 @@ use edits::{join, remove, split};
 use halfedges::halfedge::FREE;
 use questions::counting::counts;
 use questions::loops::loop_length;
-use std::fmt;
 use strips::sheet::Sheet;
 use table::Table;
 use turning::limits::{LINE_NAMES, MARK_BYTES, MAX_NAME, SLOTS};
@@ -20,16 +19,6 @@ const B: Point = Point { x: 4, y: 0 };
 
 const C: Point = Point { x: 2, y: 3 };
 
-// A point as the tour prints it.
-#[derive(Clone, Copy)]
-struct Place(Point);
-
-impl fmt::Display for Place {
-    fn fmt<W: fmt::Write>(&self, f: &mut fmt::Formatter<W>) -> fmt::Result {
-        write!(f, "({}, {})", self.0.x, self.0.y)
-    }
-}
-
 fn yes_or_no(answer: bool) -> &'static str {
     if answer { "yes" } else { "no" }
 }
@@ -37,31 +26,17 @@ fn yes_or_no(answer: bool) -> &'static str {
 // Hangs an edge between two ends, and prints what was asked and answered.
 fn hang<S: Store>(rt: &impl Print, store: &mut S, edge: u16, a: End, b: End) -> anyhow::Result<()> {
     let answer = yes_or_no(store.hang(edge, a, b));
-    let (from, to) = (Place(a.point), Place(b.point));
-    println!(rt; "hang {edge} between {from} and {to}: {answer}")?;
+    let (p, q) = (a.point, b.point);
+    println!(rt; "hang {edge} between {p} and {q}: {answer}")?;
     Ok(())
-}
-
-fn new_end(point: Point) -> End {
-    End {
-        point,
-        corner: None,
-    }
-}
-
-fn after(point: Point, c: i16) -> End {
-    End {
-        point,
-        corner: Some(c),
-    }
 }
 
 // Draws the triangle A, B, C: edge 1 is AB, 2 is AC, 3 is CB. The fourth edge finds its points taken.
 fn draw<S: Store>(rt: &impl Print, store: &mut S) -> anyhow::Result<()> {
-    hang(rt, store, 1, new_end(A), new_end(B))?;
-    hang(rt, store, 2, after(A, 1), new_end(C))?;
-    hang(rt, store, 3, after(C, -2), after(B, -1))?;
-    hang(rt, store, 4, new_end(A), new_end(C))
+    hang(rt, store, 1, End::new(A), End::new(B))?;
+    hang(rt, store, 2, End::after(A, 1), End::new(C))?;
+    hang(rt, store, 3, End::after(C, -2), End::after(B, -1))?;
+    hang(rt, store, 4, End::new(A), End::new(C))
 }
 
 // Prints the loop of h: its halfedges, each with the point where it starts.
@@ -72,8 +47,7 @@ fn print_loop<T: Chart>(rt: &impl Print, t: &T, h: i16) -> anyhow::Result<()> {
     let mut x = h;
     for _ in 0..length {
         if let Some(p) = t.point(x) {
-            let from = Place(p);
-            print!(rt; " {x:+} from {from}")?;
+            print!(rt; " {x:+} from {p}")?;
         }
         x = side.follower(x);
     }

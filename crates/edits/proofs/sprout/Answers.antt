@@ -19,5 +19,5 @@ returns g c =
     (sprout_done max_edge (m x) c.args.edge (sym c.if-not-is_number.ensures) (sym c.if-holds_edge.ensures) (m c.hang-done.new.self) c.hang-done.result
     (g.S.Turning.lawful x) c.args.corner _ (to_z-of_z w16 c.args.corner c.ranges.corner) c.in-Some.at c.args.p c.in-Some.ensures
     (sym c.if-not-is_free.ensures)
-    (subst₂ (λ a b. Hangs max_edge (m x) c.args.edge a b c.hang-done.result (m c.hang-done.new.self)) c.after.ensures c.new_end.ensures c.hang-done.ensures)) in
+    (subst₂ (λ a b. Hangs max_edge (m x) c.args.edge a b c.hang-done.result (m c.hang-done.new.self)) c.after.ensures c.new.ensures c.hang-done.ensures)) in
     record { done = done; flat = keeps_flat max_edge (m x) (g.S.Turning.lawful x, c.placed.ensures) _ e _ done }

@@ -1,4 +1,4 @@
-use Rattle.std.proofs.Common.{◌∙◌}
+use Rattle.std.proofs.Common.{◌∙◌, arith}
 use Rattle.turning.specs.Limits.{max_edge, slots}
 use Rattle.chart.specs.Linework.{lines_of}
 use Rattle.halfedges.specs.View.{seen}
@@ -12,11 +12,11 @@ returns g c =
     let lawful = g.C.Turning.lawful chart in
     let placed = c.placed.ensures in
     let v = seen c.copy_edges.new.rows in
-    let copied = c.copy_edges.ensures.copied in
+    let copied = c.copy_edges.ensures in
     record {
       lines = copied_lines max_edge slots lines lawful placed _ c.requires.room v copied;
       core = record {
-        roomy = c.copy_edges.ensures.roomy;
+        long = omega arith;
         indexed = copied_indexed max_edge slots lines lawful placed _ c.requires.room v copied;
         sound = copied_sound max_edge slots lines lawful placed _ c.requires.room v copied;
       };

@@ -1,4 +1,4 @@
-use Rattle.std.proofs.Common.{◌≡◌, pos, neg_ℤ, Some, None, sym, ap, ◌∙◌, subst, subst₂}
+use Rattle.std.proofs.Common.{◌≡◌, ◌≤◌, length, arith, pos, neg_ℤ, Some, None, sym, ap, ◌∙◌, subst, subst₂}
 use Rattle.turning.specs.Limits.{max_edge, slots}
 use Rattle.laws.specs.Rotations.{Fresh}
 use Rattle.halfedges.specs.View.{seen}
@@ -21,7 +21,7 @@ bring-requires c =
     let E-is = minus_name a.edge (held_small _ p.core.sound.0 a.edge p.cuts.here) in
     let F-is = minus_name a.east (small _ p.cuts.high) in
     record {
-      roomy = p.core.roomy;
+      long = p.core.long;
       indexed = p.core.indexed;
       rotation = rotation₀ rs p.core a.edge a.east a.at a.to p.cuts p.room a.span.west a.span.east;
       room = room₀ rs p.core a.edge a.east a.at a.to p.cuts p.room a.span.west a.span.east;
@@ -37,9 +37,9 @@ unhook-requires c =
     let p = c.requires in
     let E-is = minus_name a.edge (held_small _ p.core.sound.0 a.edge p.cuts.here) in
     let F-is = minus_name a.east (small _ p.cuts.high) in
-    let first : Brought slots a.span.east (neg_ℤ (pos a.east)) (Some (neg_ℤ (pos a.edge))) a.to (seen rs) (seen rs₁) = subst₂ (λ x y. Brought slots a.span.east x (Some y) a.to (seen rs) (seen rs₁)) F-is E-is c.bring.ensures.brought in
+    let first : Brought slots a.span.east (neg_ℤ (pos a.east)) (Some (neg_ℤ (pos a.edge))) a.to (seen rs) (seen rs₁) = subst₂ (λ x y. Brought slots a.span.east x (Some y) a.to (seen rs) (seen rs₁)) F-is E-is c.bring.ensures in
     record {
-      roomy = c.bring.ensures.roomy;
+      long = omega arith;
       indexed = first.indexed;
       rotation = rotation₁ rs p.core a.edge a.east a.at a.to p.cuts p.room a.span.west a.span.east rs₁ first;
       here = ap (turn_of (seen rs₁)).held E-is ∙ held₁ rs p.core a.edge a.east a.at a.to p.cuts p.room a.span.west a.span.east rs₁ first;
@@ -54,10 +54,10 @@ bring-requires-2 c =
     let p = c.requires in
     let E-is = minus_name a.edge (held_small _ p.core.sound.0 a.edge p.cuts.here) in
     let F-is = minus_name a.east (small _ p.cuts.high) in
-    let first : Brought slots a.span.east (neg_ℤ (pos a.east)) (Some (neg_ℤ (pos a.edge))) a.to (seen rs) (seen rs₁) = subst₂ (λ x y. Brought slots a.span.east x (Some y) a.to (seen rs) (seen rs₁)) F-is E-is c.bring.ensures.brought in
-    let second : seen rs₂ ≡ unhooked (neg_ℤ (pos a.edge)) (seen rs₁) = c.unhook.ensures.view ∙ ap (λ z. unhooked z (seen rs₁)) E-is in
+    let first : Brought slots a.span.east (neg_ℤ (pos a.east)) (Some (neg_ℤ (pos a.edge))) a.to (seen rs) (seen rs₁) = subst₂ (λ x y. Brought slots a.span.east x (Some y) a.to (seen rs) (seen rs₁)) F-is E-is c.bring.ensures in
+    let second : seen rs₂ ≡ unhooked (neg_ℤ (pos a.edge)) (seen rs₁) = c.unhook.ensures ∙ ap (λ z. unhooked z (seen rs₁)) E-is in
     record {
-      roomy = c.unhook.ensures.roomy;
+      long = omega arith;
       indexed = indexed₂ rs p.core a.edge a.east a.at a.to p.cuts p.room a.span.west a.span.east rs₁ first rs₂ second;
       rotation = rotation₂ rs p.core a.edge a.east a.at a.to p.cuts p.room a.span.west a.span.east rs₁ first rs₂ second;
       room = room₂ rs p.core a.edge a.east a.at a.to p.cuts p.room a.span.west a.span.east rs₁ first rs₂ second;
@@ -75,11 +75,11 @@ bring-requires-3 c =
     let p = c.requires in
     let E-is = minus_name a.edge (held_small _ p.core.sound.0 a.edge p.cuts.here) in
     let F-is = minus_name a.east (small _ p.cuts.high) in
-    let first : Brought slots a.span.east (neg_ℤ (pos a.east)) (Some (neg_ℤ (pos a.edge))) a.to (seen rs) (seen rs₁) = subst₂ (λ x y. Brought slots a.span.east x (Some y) a.to (seen rs) (seen rs₁)) F-is E-is c.bring.ensures.brought in
-    let second : seen rs₂ ≡ unhooked (neg_ℤ (pos a.edge)) (seen rs₁) = c.unhook.ensures.view ∙ ap (λ z. unhooked z (seen rs₁)) E-is in
-    let third : Brought slots a.span.west (neg_ℤ (pos a.edge)) None a.at (seen rs₂) (seen rs₃) = subst (λ x. Brought slots a.span.west x None a.at (seen rs₂) (seen rs₃)) E-is c.bring-2.ensures.brought in
+    let first : Brought slots a.span.east (neg_ℤ (pos a.east)) (Some (neg_ℤ (pos a.edge))) a.to (seen rs) (seen rs₁) = subst₂ (λ x y. Brought slots a.span.east x (Some y) a.to (seen rs) (seen rs₁)) F-is E-is c.bring.ensures in
+    let second : seen rs₂ ≡ unhooked (neg_ℤ (pos a.edge)) (seen rs₁) = c.unhook.ensures ∙ ap (λ z. unhooked z (seen rs₁)) E-is in
+    let third : Brought slots a.span.west (neg_ℤ (pos a.edge)) None a.at (seen rs₂) (seen rs₃) = subst (λ x. Brought slots a.span.west x None a.at (seen rs₂) (seen rs₃)) E-is c.bring-2.ensures in
     record {
-      roomy = c.bring-2.ensures.roomy;
+      long = omega arith;
       indexed = third.indexed;
       rotation = rotation₃ rs p.core a.edge a.east a.at a.to p.cuts p.room a.span.west a.span.east rs₁ first rs₂ second rs₃ third;
       room = room₃ rs p.core a.edge a.east a.at a.to p.cuts p.room a.span.west a.span.east rs₁ first rs₂ second rs₃ third;
@@ -98,15 +98,16 @@ returns c =
     let p = c.requires in
     let E-is = minus_name a.edge (held_small _ p.core.sound.0 a.edge p.cuts.here) in
     let F-is = minus_name a.east (small _ p.cuts.high) in
-    let first : Brought slots a.span.east (neg_ℤ (pos a.east)) (Some (neg_ℤ (pos a.edge))) a.to (seen rs) (seen rs₁) = subst₂ (λ x y. Brought slots a.span.east x (Some y) a.to (seen rs) (seen rs₁)) F-is E-is c.bring.ensures.brought in
-    let second : seen rs₂ ≡ unhooked (neg_ℤ (pos a.edge)) (seen rs₁) = c.unhook.ensures.view ∙ ap (λ z. unhooked z (seen rs₁)) E-is in
-    let third : Brought slots a.span.west (neg_ℤ (pos a.edge)) None a.at (seen rs₂) (seen rs₃) = subst (λ x. Brought slots a.span.west x None a.at (seen rs₂) (seen rs₃)) E-is c.bring-2.ensures.brought in
-    let fourth : Brought slots a.span.west (pos a.east) (Some (neg_ℤ (pos a.edge))) a.at (seen rs₃) (seen rs₄) = subst₂ (λ x y. Brought slots a.span.west x (Some y) a.at (seen rs₃) (seen rs₄)) (plus_name a.east (small _ p.cuts.high)) E-is c.bring-3.ensures.brought in
+    let first : Brought slots a.span.east (neg_ℤ (pos a.east)) (Some (neg_ℤ (pos a.edge))) a.to (seen rs) (seen rs₁) = subst₂ (λ x y. Brought slots a.span.east x (Some y) a.to (seen rs) (seen rs₁)) F-is E-is c.bring.ensures in
+    let second : seen rs₂ ≡ unhooked (neg_ℤ (pos a.edge)) (seen rs₁) = c.unhook.ensures ∙ ap (λ z. unhooked z (seen rs₁)) E-is in
+    let third : Brought slots a.span.west (neg_ℤ (pos a.edge)) None a.at (seen rs₂) (seen rs₃) = subst (λ x. Brought slots a.span.west x None a.at (seen rs₂) (seen rs₃)) E-is c.bring-2.ensures in
+    let fourth : Brought slots a.span.west (pos a.east) (Some (neg_ℤ (pos a.edge))) a.at (seen rs₃) (seen rs₄) = subst₂ (λ x y. Brought slots a.span.west x (Some y) a.at (seen rs₃) (seen rs₄)) (plus_name a.east (small _ p.cuts.high)) E-is c.bring-3.ensures in
+    let long : slots ≤ length rs₄ = omega arith in
     record {
-      lines = cleave_lines rs p.core a.edge a.east a.at a.to p.cuts p.room a.span.west a.span.east rs₁ first rs₂ second rs₃ third rs₄ c.bring-3.ensures.roomy fourth;
-      core = cleave_core rs p.core a.edge a.east a.at a.to p.cuts p.room a.span.west a.span.east rs₁ first rs₂ second rs₃ third rs₄ c.bring-3.ensures.roomy fourth;
-      used = cleave_used rs p.core a.edge a.east a.at a.to p.cuts p.room a.span.west a.span.east rs₁ first rs₂ second rs₃ third rs₄ c.bring-3.ensures.roomy fourth;
-      strips = cleave_strips rs p.core a.edge a.east a.at a.to p.cuts p.room a.span.west a.span.east rs₁ first rs₂ second rs₃ third rs₄ c.bring-3.ensures.roomy fourth;
-      counted = cleave_counted rs p.core a.edge a.east a.at a.to p.cuts p.room a.span.west a.span.east rs₁ first rs₂ second rs₃ third rs₄ c.bring-3.ensures.roomy fourth;
-      unlinked = cleave_unlinked rs p.core a.edge a.east a.at a.to p.cuts p.room a.span.west a.span.east rs₁ first rs₂ second rs₃ third rs₄ c.bring-3.ensures.roomy fourth;
+      lines = cleave_lines rs p.core a.edge a.east a.at a.to p.cuts p.room a.span.west a.span.east rs₁ first rs₂ second rs₃ third rs₄ long fourth;
+      core = cleave_core rs p.core a.edge a.east a.at a.to p.cuts p.room a.span.west a.span.east rs₁ first rs₂ second rs₃ third rs₄ long fourth;
+      used = cleave_used rs p.core a.edge a.east a.at a.to p.cuts p.room a.span.west a.span.east rs₁ first rs₂ second rs₃ third rs₄ long fourth;
+      strips = cleave_strips rs p.core a.edge a.east a.at a.to p.cuts p.room a.span.west a.span.east rs₁ first rs₂ second rs₃ third rs₄ long fourth;
+      counted = cleave_counted rs p.core a.edge a.east a.at a.to p.cuts p.room a.span.west a.span.east rs₁ first rs₂ second rs₃ third rs₄ long fourth;
+      unlinked = cleave_unlinked rs p.core a.edge a.east a.at a.to p.cuts p.room a.span.west a.span.east rs₁ first rs₂ second rs₃ third rs₄ long fourth;
     }

@@ -1,4 +1,4 @@
-use Rattle.std.proofs.Common.{pos, neg_ℤ, sym, subst}
+use Rattle.std.proofs.Common.{◌≤◌, length, arith, pos, neg_ℤ, sym, subst}
 use Rattle.turning.specs.Limits.{max_edge, slots}
 use Rattle.laws.specs.Rotations.{Fresh}
 use Rattle.halfedges.specs.View.{seen}
@@ -21,7 +21,7 @@ bring-requires c =
     let b = c.args.end in
     let p = c.requires in
     record {
-      roomy = p.core.roomy;
+      long = p.core.long;
       indexed = p.core.indexed;
       rotation = rotation₀ rs p.core e a.point b.point a.corner b.corner p.ends p.room;
       room = room₀ rs p.core e a.point b.point a.corner b.corner p.ends p.room;
@@ -38,9 +38,9 @@ bring-requires-2 c =
     let b = c.args.end in
     let p = c.requires in
     let g = c.args.span in
-    let first : Brought slots g.west (pos e) a.corner a.point (seen rs) (seen rs₁) = subst (λ z. Brought slots g.west z a.corner a.point (seen rs) (seen rs₁)) (plus_name e (small _ p.ends.high)) c.bring.ensures.brought in
+    let first : Brought slots g.west (pos e) a.corner a.point (seen rs) (seen rs₁) = subst (λ z. Brought slots g.west z a.corner a.point (seen rs) (seen rs₁)) (plus_name e (small _ p.ends.high)) c.bring.ensures in
     record {
-      roomy = c.bring.ensures.roomy;
+      long = omega arith;
       indexed = first.indexed;
       rotation = rotation₁ rs p.core e a.point b.point a.corner b.corner p.ends p.room g.west rs₁ first;
       room = room₁ rs p.core e a.point b.point a.corner b.corner p.ends p.room g.west rs₁ first;
@@ -58,13 +58,14 @@ returns c =
     let b = c.args.end in
     let p = c.requires in
     let g = c.args.span in
-    let first : Brought slots g.west (pos e) a.corner a.point (seen rs) (seen rs₁) = subst (λ z. Brought slots g.west z a.corner a.point (seen rs) (seen rs₁)) (plus_name e (small _ p.ends.high)) c.bring.ensures.brought in
-    let second : Brought slots g.east (neg_ℤ (pos e)) b.corner b.point (seen rs₁) (seen rs₂) = subst (λ z. Brought slots g.east z b.corner b.point (seen rs₁) (seen rs₂)) (minus_name e (small _ p.ends.high)) c.bring-2.ensures.brought in
+    let first : Brought slots g.west (pos e) a.corner a.point (seen rs) (seen rs₁) = subst (λ z. Brought slots g.west z a.corner a.point (seen rs) (seen rs₁)) (plus_name e (small _ p.ends.high)) c.bring.ensures in
+    let second : Brought slots g.east (neg_ℤ (pos e)) b.corner b.point (seen rs₁) (seen rs₂) = subst (λ z. Brought slots g.east z b.corner b.point (seen rs₁) (seen rs₂)) (minus_name e (small _ p.ends.high)) c.bring-2.ensures in
+    let long : slots ≤ length rs₂ = omega arith in
     record {
-      lines = hang_lines rs p.core e a.point b.point a.corner b.corner p.ends p.room g.west rs₁ first g.east rs₂ c.bring-2.ensures.roomy second;
-      core = hang_core rs p.core e a.point b.point a.corner b.corner p.ends p.room g.west rs₁ first g.east rs₂ c.bring-2.ensures.roomy second;
-      used = hang_used rs p.core e a.point b.point a.corner b.corner p.ends p.room g.west rs₁ first g.east rs₂ c.bring-2.ensures.roomy second;
-      strips = hang_strips rs p.core e a.point b.point a.corner b.corner p.ends p.room g.west rs₁ first g.east rs₂ c.bring-2.ensures.roomy second;
-      counted = hang_counted rs p.core e a.point b.point a.corner b.corner p.ends p.room g.west rs₁ first g.east rs₂ c.bring-2.ensures.roomy second;
-      unlinked = hang_unlinked rs p.core e a.point b.point a.corner b.corner p.ends p.room g.west rs₁ first g.east rs₂ c.bring-2.ensures.roomy second;
+      lines = hang_lines rs p.core e a.point b.point a.corner b.corner p.ends p.room g.west rs₁ first g.east rs₂ long second;
+      core = hang_core rs p.core e a.point b.point a.corner b.corner p.ends p.room g.west rs₁ first g.east rs₂ long second;
+      used = hang_used rs p.core e a.point b.point a.corner b.corner p.ends p.room g.west rs₁ first g.east rs₂ long second;
+      strips = hang_strips rs p.core e a.point b.point a.corner b.corner p.ends p.room g.west rs₁ first g.east rs₂ long second;
+      counted = hang_counted rs p.core e a.point b.point a.corner b.corner p.ends p.room g.west rs₁ first g.east rs₂ long second;
+      unlinked = hang_unlinked rs p.core e a.point b.point a.corner b.corner p.ends p.room g.west rs₁ first g.east rs₂ long second;
     }

@@ -1,4 +1,5 @@
-use Rattle.std.proofs.Common.{◌≡◌, pos, neg_ℤ, ap, ◌∙◌}
+use Rattle.std.proofs.Common.{◌≡◌, ◌≤◌, length, arith, pos, neg_ℤ, ap, ◌∙◌}
+use Rattle.turning.specs.Limits.{slots}
 use Rattle.halfedges.specs.View.{seen}
 use Rattle.halfedges.specs.Rows.{turn_of, unhooked}
 use Rattle.halfedges.proofs.Lifts.{rotation₀, indexed₁, rotation₁, here₁, lift_lines, lift_core, lift_used, lift_strips, lift_counted, lift_unlinked}
@@ -17,7 +18,7 @@ unhook-requires c =
     let e = c.args.edge in
     let p = plus_name e (held_small _ c.requires.core.sound.0 e c.requires.here) in
     record {
-      roomy = c.requires.core.roomy;
+      long = c.requires.core.long;
       indexed = c.requires.core.indexed;
       rotation = rotation₀ rs c.requires.core e c.requires.here;
       here = ap (turn_of (seen rs)).held p ∙ c.requires.here;
@@ -29,9 +30,9 @@ unhook-requires-2 c =
     let rs₁ = c.unhook.new.rows in
     let e = c.args.edge in
     let l = held_small _ c.requires.core.sound.0 e c.requires.here in
-    let first : seen rs₁ ≡ unhooked (pos e) (seen rs) = c.unhook.ensures.view ∙ ap (λ z. unhooked z (seen rs)) (plus_name e l) in
+    let first : seen rs₁ ≡ unhooked (pos e) (seen rs) = c.unhook.ensures ∙ ap (λ z. unhooked z (seen rs)) (plus_name e l) in
     record {
-      roomy = c.unhook.ensures.roomy;
+      long = omega arith;
       indexed = indexed₁ rs c.requires.core e c.requires.here rs₁ first;
       rotation = rotation₁ rs c.requires.core e c.requires.here rs₁ first;
       here = ap (turn_of (seen rs₁)).held (minus_name e l) ∙ here₁ rs c.requires.core e c.requires.here rs₁ first;
@@ -44,13 +45,14 @@ returns c =
     let rs₂ = c.unhook-2.new.rows in
     let e = c.args.edge in
     let l = held_small _ c.requires.core.sound.0 e c.requires.here in
-    let first : seen rs₁ ≡ unhooked (pos e) (seen rs) = c.unhook.ensures.view ∙ ap (λ z. unhooked z (seen rs)) (plus_name e l) in
-    let second : seen rs₂ ≡ unhooked (neg_ℤ (pos e)) (seen rs₁) = c.unhook-2.ensures.view ∙ ap (λ z. unhooked z (seen rs₁)) (minus_name e l) in
+    let first : seen rs₁ ≡ unhooked (pos e) (seen rs) = c.unhook.ensures ∙ ap (λ z. unhooked z (seen rs)) (plus_name e l) in
+    let second : seen rs₂ ≡ unhooked (neg_ℤ (pos e)) (seen rs₁) = c.unhook-2.ensures ∙ ap (λ z. unhooked z (seen rs₁)) (minus_name e l) in
+    let long : slots ≤ length rs₂ = omega arith in
     record {
-      lines = lift_lines rs c.requires.core e c.requires.here rs₁ first rs₂ c.unhook-2.ensures.roomy second;
-      core = lift_core rs c.requires.core e c.requires.here rs₁ first rs₂ c.unhook-2.ensures.roomy second;
-      used = lift_used rs c.requires.core e c.requires.here rs₁ first rs₂ c.unhook-2.ensures.roomy second;
-      strips = lift_strips rs c.requires.core e c.requires.here rs₁ first rs₂ c.unhook-2.ensures.roomy second;
-      counted = lift_counted rs c.requires.core e c.requires.here rs₁ first rs₂ c.unhook-2.ensures.roomy second;
-      unlinked = lift_unlinked rs c.requires.core e c.requires.here rs₁ first rs₂ c.unhook-2.ensures.roomy second;
+      lines = lift_lines rs c.requires.core e c.requires.here rs₁ first rs₂ long second;
+      core = lift_core rs c.requires.core e c.requires.here rs₁ first rs₂ long second;
+      used = lift_used rs c.requires.core e c.requires.here rs₁ first rs₂ long second;
+      strips = lift_strips rs c.requires.core e c.requires.here rs₁ first rs₂ long second;
+      counted = lift_counted rs c.requires.core e c.requires.here rs₁ first rs₂ long second;
+      unlinked = lift_unlinked rs c.requires.core e c.requires.here rs₁ first rs₂ long second;
     }

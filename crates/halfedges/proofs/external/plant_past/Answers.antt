@@ -1,4 +1,4 @@
-use Rattle.std.proofs.Common.{◌≡◌, [], pos, sym, refl, ap, ◌∙◌, subst, w16}
+use Rattle.std.proofs.Common.{◌≡◌, [], pos, sym, refl, ap, ◌∙◌, subst, arith, w16}
 use Rattle.std.proofs.lemmas.Int.{to_z-of_z}
 use Rattle.flat.specs.Orbits.{indicator}
 use Rattle.turning.specs.Limits.{max_edge, slots}
@@ -20,11 +20,11 @@ returns c =
     let core = c.requires.core in
     let off = free_off slots v core.indexed core.sound.0.no_zero s f.low f.free in
     let r : Halfedge = record { strip = c.args.strip; name = k; follower = pos 0; predecessor = pos 0; x = pos 0; y = pos 0; index = [] } in
-    let e : seen rs' ≡ written s r v = c.write.ensures.view ∙ ap (λ z. written s (record { strip = c.args.strip; name = z; follower = pos 0; predecessor = pos 0; x = pos 0; y = pos 0; index = [] }) v) (to_z-of_z w16 k c.ranges.k) in
+    let e : seen rs' ≡ written s r v = c.write.ensures ∙ ap (λ z. written s (record { strip = c.args.strip; name = z; follower = pos 0; predecessor = pos 0; x = pos 0; y = pos 0; index = [] }) v) (to_z-of_z w16 k c.ranges.k) in
     let planted : Planted slots 1 (λ i h. indicator (same_place c.args.strip k i h)) v (seen rs') =
     subst (Planted slots 1 (λ i h. indicator (same_place c.args.strip k i h)) v) (sym e) (beside_planted slots v core.indexed s f.low f.high off r refl refl f.free c.requires.some) in
     record {
-      core = core_same max_edge slots rs rs' core c.write.ensures.roomy (subst (Indexed slots) (sym e) (beside_indexed slots v core.indexed s f.low f.high off r refl refl)) planted.lines;
+      core = core_same max_edge slots rs rs' core (omega arith) (subst (Indexed slots) (sym e) (beside_indexed slots v core.indexed s f.low f.high off r refl refl)) planted.lines;
       planted = planted;
       unlinked = λ o. subst (Unlinked slots) (sym e) (beside_unlinked slots v core.indexed s f.low f.high off r refl refl o);
       packed = subst (Packed s) (sym e) (packed_more s r v f.packed c.requires.some);

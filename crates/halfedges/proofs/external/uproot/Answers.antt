@@ -1,4 +1,4 @@
-use Rattle.std.proofs.Common.{◌≡◌, true, sym, refl, ap, ◌∙◌, subst, w16}
+use Rattle.std.proofs.Common.{◌≡◌, true, sym, refl, ap, ◌∙◌, subst, arith, w16}
 use Rattle.std.proofs.lemmas.Int.{to_z-of_z}
 use Rattle.flat.specs.Orbits.{indicator}
 use Rattle.turning.specs.Limits.{max_edge, slots}
@@ -20,11 +20,11 @@ returns c =
     let found : row_in v strip k s ≡ true = ap (λ z. row_in v strip z s) (sym (to_z-of_z w16 k c.ranges.k)) ∙ f.found in
     let at = row_in_parts v strip k s found in
     let off = away_off slots v core.indexed s f.low strip k found c.requires.away in
-    let e : seen rs' ≡ written s none v = c.write.ensures.view in
+    let e : seen rs' ≡ written s none v = c.write.ensures in
     let planted : Planted slots 1 (λ i h. indicator (same_place strip k i h)) (seen rs') v =
     subst (λ u. Planted slots 1 (λ i h. indicator (same_place strip k i h)) u v) (sym e) (beside_freed slots v core.indexed s f.low f.high off none refl refl strip k at.0 at.1 c.requires.some refl) in
     record {
-      core = core_same max_edge slots rs rs' core c.write.ensures.roomy (subst (Indexed slots) (sym e) (beside_indexed slots v core.indexed s f.low f.high off none refl refl)) (sym planted.lines);
+      core = core_same max_edge slots rs rs' core (omega arith) (subst (Indexed slots) (sym e) (beside_indexed slots v core.indexed s f.low f.high off none refl refl)) (sym planted.lines);
       planted = planted;
       unlinked = λ o. subst (Unlinked slots) (sym e) (beside_unlinked slots v core.indexed s f.low f.high off none refl refl o);
     }

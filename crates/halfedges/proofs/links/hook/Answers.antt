@@ -1,4 +1,4 @@
-use Rattle.std.proofs.Common.{◌≡◌, true, sym, ap, ◌∙◌, subst, ap₂, w16, SFits, to_z, of_z, rules}
+use Rattle.std.proofs.Common.{◌≡◌, true, sym, ap, ◌∙◌, subst, ap₂, arith, w16, SFits, to_z, of_z, rules}
 use Rattle.std.proofs.lemmas.Int.{to_z-of_z}
 use Rattle.turning.specs.Limits.{slots}
 use Rattle.halfedges.specs.View.{seen, led, row_of, with_follower}
@@ -17,9 +17,9 @@ set_predecessor-requires c =
     let corner : (turn_of v).held g ≡ true = subst (CornerHeld v) c.in-Some.is c.requires.corner in
     let s : c.slot-i.result ≡ v.entry g = c.slot-i.ensures ∙ ap v.entry (to_z-of_z w16 g fg) in
     let a : to_z w16 (of_z w16 r.follower) ≡ (row_of v g).follower = to_z-of_z w16 _ f ∙ ap (λ x. x.follower) c.read-after.ensures ∙ ap (λ i. (v.row i).follower) s in
-    let first : seen c.set_follower.new.rows ≡ led g k v = c.set_follower.ensures.view ∙ ap₂ (λ x y. led x y v) (to_z-of_z w16 g fg) (to_z-of_z w16 k c.ranges.k) in
+    let first : seen c.set_follower.new.rows ≡ led g k v = c.set_follower.ensures ∙ ap₂ (λ x y. led x y v) (to_z-of_z w16 g fg) (to_z-of_z w16 k c.ranges.k) in
     record {
-      roomy = c.set_follower.ensures.roomy;
+      long = omega arith;
       indexed = subst (Indexed slots) (sym first) (written_indexed slots v c.requires.indexed g corner (with_follower k (row_of v g)) (c.requires.indexed.named g corner));
       here = ap (λ u. (turn_of u).held (to_z w16 (of_z w16 r.follower))) first ∙ ap (turn_of v).held a ∙ c.requires.rotation.ahead g corner;
     }

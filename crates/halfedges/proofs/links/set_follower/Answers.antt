@@ -5,7 +5,7 @@ use Rattle.turning.specs.Limits.{max_edge, slots}
 use Rattle.halfedges.specs.declared.halfedge.Halfedge.{Halfedge}
 use Rattle.halfedges.specs.View.{none, seen, written, with_follower}
 use Rattle.halfedges.proofs.Meaning.{held_slot}
-use Rattle.halfedges.proofs.Views.{row_is, write_view, write_roomy}
+use Rattle.halfedges.proofs.Views.{row_is, write_view}
 use Rattle.halfedges.proofs.links.set_follower.Goals as goal
 
 pub returns : goal.returns
@@ -17,12 +17,9 @@ returns c =
     let at : s ≡ v.entry h = c.slot-s.ensures ∙ ap v.entry (to_z-of_z w16 h c.ranges.h) in
     let low = held_slot v h c.requires.here in
     let high = leb-true (v.entry h) slots (c.requires.indexed.inside h) in
-    let long = c.requires.roomy.long in
+    let long = c.requires.long in
     let l : s - 1 < length rs = omega arith in
     let e : suc (s - 1) ≡ s = omega arith in
     let r : Halfedge = with_follower c.args.f (get_or rs (s - 1) none) in
     let fits = c.ranges.f in
-    simp to_z-of_z (record {
-      view = write_view max_edge slots rs (s - 1) r l refl ∙ ap₂ (λ i x. written i (with_follower c.args.f x) v) (e ∙ at) (sym (row_is max_edge slots rs (s - 1)) ∙ ap v.row (e ∙ at));
-      roomy = write_roomy max_edge slots rs (s - 1) r l refl c.requires.roomy;
-    })
+    simp to_z-of_z (write_view max_edge slots rs (s - 1) r l refl ∙ ap₂ (λ i x. written i (with_follower c.args.f x) v) (e ∙ at) (sym (row_is max_edge slots rs (s - 1)) ∙ ap v.row (e ∙ at)))

@@ -19,9 +19,9 @@ set_predecessor-requires c =
     let q : SFits w16 r.predecessor = search rules in
     let af : to_z w16 (of_z w16 r.follower) ≡ (row_of v h).follower = to_z-of_z w16 _ f ∙ ap (λ x. x.follower) c.read-r.ensures ∙ ap (λ i. (v.row i).follower) s in
     let bf : to_z w16 (of_z w16 r.predecessor) ≡ (row_of v h).predecessor = to_z-of_z w16 _ q ∙ ap (λ x. x.predecessor) c.read-r.ensures ∙ ap (λ i. (v.row i).predecessor) s in
-    let first : seen c.set_follower.new.rows ≡ led (row_of v h).predecessor (row_of v h).follower v = c.set_follower.ensures.view ∙ ap₂ (λ x y. led x y v) bf af in
+    let first : seen c.set_follower.new.rows ≡ led (row_of v h).predecessor (row_of v h).follower v = c.set_follower.ensures ∙ ap₂ (λ x y. led x y v) bf af in
     record {
-      roomy = c.set_follower.ensures.roomy;
+      long = omega arith;
       indexed = subst (Indexed slots) (sym first) (led_indexed slots v c.requires.indexed (zero_row max_edge slots rs) max_edge c.requires.rotation h c.requires.here);
       here = ap (λ u. (turn_of u).held (to_z w16 (of_z w16 r.follower))) first ∙ ap (turn_of v).held af ∙ after_held slots v c.requires.indexed (zero_row max_edge slots rs) max_edge c.requires.rotation h c.requires.here;
     }
@@ -33,7 +33,7 @@ write-requires c =
     let s : c.slot-s.result ≡ v.entry h = c.slot-s.ensures ∙ ap v.entry (to_z-of_z w16 h c.ranges.h) in
     let l = held_slot v h c.requires.here in
     let u = leb-true (v.entry h) slots (c.requires.indexed.inside h) in
-    record { roomy = c.set_predecessor.ensures.roomy; low = omega arith; high = omega arith }
+    record { long = omega arith; low = omega arith; high = omega arith }
 
 pub note-requires : goal.note-requires
 note-requires c =
@@ -41,4 +41,4 @@ note-requires c =
     let b = to_z-of_z w16 h c.ranges.h in
     let l = c.requires.rotation.low h c.requires.here in
     let u = c.requires.rotation.high h c.requires.here in
-    record { roomy = c.write.ensures.roomy; low = omega (arith, ints); high = omega (arith, ints) }
+    record { long = omega arith; low = omega (arith, ints); high = omega (arith, ints) }

@@ -2,7 +2,7 @@ use Rattle.std.proofs.Common.{◌≡◌, suc, ◌-◌, ◌<◌, length, get_or, 
 use Rattle.std.proofs.lemmas.Int.{to_z-of_z}
 use Rattle.turning.specs.Limits.{max_edge, slots}
 use Rattle.halfedges.specs.View.{none, bare, seen, written}
-use Rattle.halfedges.proofs.Views.{write_view, write_roomy}
+use Rattle.halfedges.proofs.Views.{write_view}
 use Rattle.halfedges.proofs.slots.write.Goals as goal
 
 pub returns : goal.returns
@@ -17,7 +17,4 @@ returns c =
     let fp : SFits w16 r.predecessor = search rules in
     let fx : SFits w32 r.x = search rules in
     let fy : SFits w32 r.y = search rules in
-    simp to_z-of_z (record {
-      view = write_view max_edge slots rs (s - 1) (record { strip = r.strip; name = r.name; follower = r.follower; predecessor = r.predecessor; x = r.x; y = r.y; index = (get_or rs (s - 1) none).index }) l refl ∙ ap (λ i. written i (bare r) (seen rs)) e;
-      roomy = write_roomy max_edge slots rs (s - 1) (record { strip = r.strip; name = r.name; follower = r.follower; predecessor = r.predecessor; x = r.x; y = r.y; index = (get_or rs (s - 1) none).index }) l refl c.requires.roomy;
-    })
+    simp to_z-of_z (write_view max_edge slots rs (s - 1) (record { strip = r.strip; name = r.name; follower = r.follower; predecessor = r.predecessor; x = r.x; y = r.y; index = (get_or rs (s - 1) none).index }) l refl ∙ ap (λ i. written i (bare r) (seen rs)) e)

@@ -1,10 +1,10 @@
-use Rattle.std.proofs.Common.{◌≡◌, ℕ, suc, ◌+◌, ◌-◌, ◌<◌, true, false, eqb, List, get_or, pos, sym, refl, ap, ◌∙◌, subst, add-one, arith, w16, SFits, of_z, rules, below_more}
+use Rattle.std.proofs.Common.{◌≡◌, ℕ, suc, ◌+◌, ◌-◌, ◌<◌, ◌≤◌, true, false, eqb, List, length, get_or, pos, sym, refl, ap, ◌∙◌, subst, add-one, arith, w16, SFits, of_z, rules, below_more}
 use Rattle.std.proofs.lemmas.Bool.{cond-true, cond-false, eq-eqb, ne_eqb, both_ways}
 use Rattle.turning.specs.Limits.{max_edge, slots}
 use Rattle.turning.proofs.Names.{same_name}
 use Rattle.laws.proofs.Equal.{tell}
 use Rattle.halfedges.specs.declared.halfedge.Halfedge.{Halfedge}
-use Rattle.halfedges.specs.View.{none, seen, Roomy, written}
+use Rattle.halfedges.specs.View.{none, seen, written}
 use Rattle.halfedges.specs.Rows.{home, Indexed, strips_of, lines_in, Core}
 use Rattle.halfedges.proofs.Alone.{astray_off}
 use Rattle.halfedges.proofs.Beside.{beside_lines, beside_strips, beside_indexed, core_same}
@@ -20,15 +20,15 @@ abbrev Dropped : List Halfedge → ℕ → List Halfedge → Type 0
 Dropped rs₀ i rs = Core max_edge slots rs × (lines_in (seen rs) ≡ lines_in (seen rs₀)) × (strips_of (seen rs) ≡ strips_of (seen rs₀)) × AloneTo i rs
 
 -- a row that is not home is freed
-freed : (rs₀ : List Halfedge) (i : ℕ) (rs rs' : List Halfedge) → i < slots → Dropped rs₀ i rs → home ((seen rs).row (suc i)) ≡ false → seen rs' ≡ written (i + 1) none (seen rs) → Roomy max_edge slots rs' → Dropped rs₀ (i + 1) rs'
-freed rs₀ i rs rs' l past out view roomy =
+freed : (rs₀ : List Halfedge) (i : ℕ) (rs rs' : List Halfedge) → i < slots → Dropped rs₀ i rs → home ((seen rs).row (suc i)) ≡ false → seen rs' ≡ written (i + 1) none (seen rs) → slots ≤ length rs' → Dropped rs₀ (i + 1) rs'
+freed rs₀ i rs rs' l past out view long =
     let v = seen rs in
     let core = past.0 in
     let e : seen rs' ≡ written (suc i) none v = view ∙ ap (λ s. written s none v) (add-one i) in
     let off = astray_off max_edge slots v core.indexed core.sound.0 (suc i) (omega arith) out in
     let lines : lines_in (seen rs') ≡ lines_in v = ap lines_in e ∙ beside_lines slots v core.indexed (suc i) (omega arith) (omega arith) off none refl refl in
     let strips : strips_of (seen rs') ≡ strips_of v = ap strips_of e ∙ beside_strips slots v core.indexed (suc i) (omega arith) (omega arith) off none refl refl in (
-      core_same max_edge slots rs rs' core roomy (subst (Indexed slots) (sym e) (beside_indexed slots v core.indexed (suc i) (omega arith) (omega arith) off none refl refl)) lines,
+      core_same max_edge slots rs rs' core long (subst (Indexed slots) (sym e) (beside_indexed slots v core.indexed (suc i) (omega arith) (omega arith) off none refl refl)) lines,
       lines ∙ past.1,
       strips ∙ past.2,
       below_more _ _
@@ -61,7 +61,7 @@ loop-i-preserved c =
                 let z : r.follower ≡ pos 0 = same_name r.follower (pos 0) ff (search rules) u.if-rows-i-eq0-2.true in
                 grind (arith, tell r.name (pos 0), tell r.follower (pos 0), z)
           ]) in
-          subst (Dropped rs₀ (i + 1)) (sym w.rows-is) (freed rs₀ i rs w.write.new.rows c.loop-i-test.true c.loop-i.invariant out w.write.ensures.view w.write.ensures.roomy)
+          subst (Dropped rs₀ (i + 1)) (sym w.rows-is) (freed rs₀ i rs w.write.new.rows c.loop-i-test.true c.loop-i.invariant out w.write.ensures (omega arith))
       | else-rows-i-eq0+else-rows-i-eq0-2 w ↦
           let name : (r.name ≡ pos 0 → ⊥) = λ z. w.if-rows-i-eq0.false (ap (of_z w16) z) in
           let follower : (r.follower ≡ pos 0 → ⊥) = λ z. w.if-rows-i-eq0-2.false (ap (of_z w16) z) in

@@ -40,13 +40,6 @@ loop-e-init c = (
       subst (λ k. PlantedTo bs rs k rs) same first,
 )
 
-pub slot-requires : goal.slot-requires
-slot-requires c =
-    let e = c.loop-e.e in
-    let low = c.loop-e.auto.e in
-    let e-is : suc (e - 1) ≡ e = omega arith in
-    λ _. (c.loop-e.invariant.1 (e - 1) (sym e-is)).0.roomy
-
 -- an edge is held by the memory at the start of the loop, where it is now
 held_first : (rs₀ rs : List Halfedge) → lines_in (seen rs) ≡ lines_in (seen rs₀) → (i e : ℕ) → suc i ≡ e → (b : Bool) → (turn_of (seen rs)).held (pos e) ≡ b → (lines_in (seen rs₀)).turn.held (pos (suc i)) ≡ b
 held_first rs₀ rs lines i e is b held = ap (λ k. (lines_in (seen rs₀)).turn.held (pos k)) is ∙ ap (λ l. l.turn.held (pos e)) (sym lines) ∙ held

@@ -1,5 +1,5 @@
 use Rattle.std.proofs.Common.{◌≡◌, ℕ, suc, ◌+◌, ◌-◌, ◌<◌, ◌≤◌, true, List, get_or, drop, ◌++◌, length, set, ℤ, pos, sym, refl, ap, ◌∙◌, subst, ap₂, add-one, arith, w16, w32, SFits, of_z, rules, below_more}
-use Rattle.std.proofs.lemmas.List.{take-append-drop, length-take, length-append, set-append_left, set-get_or}
+use Rattle.std.proofs.lemmas.List.{take-append-drop, length-take, length-append, length-set, set-append_left, set-get_or}
 use Rattle.std.proofs.Math.ListN.{get_or-append}
 use Rattle.std.proofs.lemmas.Int.{to_z-of_z}
 use Rattle.std.proofs.lemmas.Bool.{leb-true}
@@ -7,13 +7,13 @@ use Rattle.turning.specs.Limits.{max_edge, slots}
 use Rattle.turning.proofs.Names.{same_name}
 use Rattle.laws.proofs.Equal.{tell}
 use Rattle.halfedges.specs.declared.halfedge.Halfedge.{Halfedge}
-use Rattle.halfedges.specs.View.{none, seen, Roomy, written}
+use Rattle.halfedges.specs.View.{none, seen, written}
 use Rattle.halfedges.specs.Rows.{home, Indexed, lines_in, Core}
 use Rattle.halfedges.specs.Homes.{HomesAlone, with_strip}
 use Rattle.halfedges.proofs.Alone.{held_home, named_home, moved_lines, moved_indexed, moved_alone, moved_here, moved_there}
 use Rattle.halfedges.proofs.Beside.{core_same}
 use Rattle.halfedges.proofs.Meaning.{held_slot}
-use Rattle.halfedges.proofs.Views.{row_is, write_view, write_roomy}
+use Rattle.halfedges.proofs.Views.{row_is, write_view}
 use Rattle.strips.specs.Borders.{strip_of}
 use Rattle.strips.proofs.recut.renumber.Goals as goal
 use Rattle.strips.proofs.recut.renumber.Goals.{then-row-ne0, else-row-ne0}
@@ -27,12 +27,12 @@ Renumbered bs rs₀ i rs = Core max_edge slots rs × (lines_in (seen rs) ≡ lin
 
 -- the next row, which is home, has moved
 moved : (bs : List ℤ) (rs₀ : List Halfedge) (i : ℕ) (rs rs' : List Halfedge) (strip : ℕ) → i < slots → Renumbered bs rs₀ i rs → home ((seen rs).row (suc i)) ≡ true → strip ≡ strip_of bs ((seen rs).row (suc i)).x
-    → seen rs' ≡ written (i + 1) (with_strip strip ((seen rs).row (i + 1))) (seen rs) → Roomy max_edge slots rs' → Renumbered bs rs₀ (i + 1) rs'
-moved bs rs₀ i rs rs' strip l past here is view roomy =
+    → seen rs' ≡ written (i + 1) (with_strip strip ((seen rs).row (i + 1))) (seen rs) → slots ≤ length rs' → Renumbered bs rs₀ (i + 1) rs'
+moved bs rs₀ i rs rs' strip l past here is view long =
     let v = seen rs in
     let e : seen rs' ≡ written (suc i) (with_strip strip (v.row (suc i))) v = view ∙ ap (λ s. written s (with_strip strip (v.row s)) v) (add-one i) in
     let lines : lines_in (seen rs') ≡ lines_in v = ap lines_in e ∙ moved_lines slots v (suc i) strip in (
-      core_same max_edge slots rs rs' past.0 roomy (subst (Indexed slots) (sym e) (moved_indexed slots v (suc i) strip past.0.indexed)) lines,
+      core_same max_edge slots rs rs' past.0 long (subst (Indexed slots) (sym e) (moved_indexed slots v (suc i) strip past.0.indexed)) lines,
       lines ∙ past.1,
       subst (HomesAlone slots) (sym e) (moved_alone slots v (suc i) strip here past.2),
       below_more _ _
@@ -71,8 +71,8 @@ module _ (items rest : List Halfedge) (i : ℕ) (l : i < length items) where
       ap seen (turned items' strip e) ∙ write_view max_edge slots (items ++ rest) i r within refl
       ∙ ap₂ (λ k x. written k (with_strip strip x) v) (sym (add-one i)) (sym (row_is max_edge slots (items ++ rest) i) ∙ ap v.row (sym (add-one i)))
 
-  roomy_turned : (items' : List Halfedge) (strip : ℕ) → items' ≡ set items i (with_strip strip (get_or items i none)) → Roomy max_edge slots (items ++ rest) → Roomy max_edge slots (items' ++ rest)
-  roomy_turned items' strip e roomy = subst (Roomy max_edge slots) (sym (turned items' strip e)) (write_roomy max_edge slots (items ++ rest) i (with_strip strip (get_or (items ++ rest) i none)) within refl roomy)
+  long_turned : (items' : List Halfedge) (strip : ℕ) → items' ≡ set items i (with_strip strip (get_or items i none)) → slots ≤ length (items ++ rest) → slots ≤ length (items' ++ rest)
+  long_turned items' strip e long = subst (λ n. slots ≤ n) (sym (ap length (turned items' strip e) ∙ length-set (items ++ rest) i _)) long
 
 pub loop-row-preserved : goal.loop-row-preserved
 loop-row-preserved c =
@@ -99,7 +99,7 @@ loop-row-preserved c =
           let fx : SFits w32 r.x = search rules in
           let strip = w.strip_of-row.result in
           let is : strip ≡ strip_of bs (v.row (suc i)).x = w.strip_of-row.ensures ∙ ap (strip_of bs) (to_z-of_z w32 r.x fx ∙ sym x_is) in
-          moved bs rs₀ i (items ++ rest) (c.if-row-ne0.row-items ++ rest) strip under past here is (view_turned items rest i l c.if-row-ne0.row-items strip w.row-items-is) (roomy_turned items rest i l c.if-row-ne0.row-items strip w.row-items-is past.0.roomy)
+          moved bs rs₀ i (items ++ rest) (c.if-row-ne0.row-items ++ rest) strip under past here is (view_turned items rest i l c.if-row-ne0.row-items strip w.row-items-is) (long_turned items rest i l c.if-row-ne0.row-items strip w.row-items-is past.0.long)
       | else-row-ne0 w ↦
           let free : (v.row (suc i)).name ≡ pos 0 = name_is ∙ same_name r.name (pos 0) fn (search rules) w.if-row-ne0.false in
           let back : c.if-row-ne0.row-items ≡ set items i r = w.row-items-is in

@@ -56,6 +56,6 @@ returns c = record {
       let rs = a.self.now.rows.at.now in
       let may = sym (told rs a.edge a.east a.at c.has_room-fits.result true c.if-not-may_cleave.ensures c.has_room-fits.ensures) in
       let h = cleavable rs a.self.now.ok a.edge a.east a.at c.in-Some.to may (sym c.east_end.ensures ∙ c.in-Some.is) in
-      same_frame rs _ h.good.core.roomy.long c.cleave_edge.ensures.core;
+      same_frame rs _ h.good.core.long c.cleave_edge.ensures.core;
   kept = λ f. absurd (true≢false f);
 }

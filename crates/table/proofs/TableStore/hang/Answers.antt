@@ -53,6 +53,6 @@ returns c = record {
       let w = c.west_to_east in
       let may = sym (told rs a.edge a.a a.b c.has_room-fits.result true c.if-not-may_hang.ensures c.has_room-fits.ensures) in
       let h = hangable rs a.self.now.ok a.edge a.a a.b w.result may w.ensures.west w.ensures.east in
-      same_frame rs _ h.good.core.roomy.long c.hang_edge.ensures.core;
+      same_frame rs _ h.good.core.long c.hang_edge.ensures.core;
   kept = λ f. absurd (true≢false f);
 }

@@ -5,11 +5,8 @@ use Rattle.turning.specs.Limits.{slots}
 use Rattle.halfedges.specs.View.{seen}
 use Rattle.halfedges.proofs.Counted.{used_within}
 use Rattle.strips.specs.Borders.{strip_of, apart}
-use Rattle.strips.proofs.Standing.{kept_out, kept_lent, long_fits}
+use Rattle.strips.proofs.Standing.{kept_out, long_fits}
 use Rattle.strips.proofs.sheet.Sheet.has_room.Goals as goal
-
-pub count_used-requires : goal.count_used-requires
-count_used-requires c = kept_lent c.args.self.now.borders.items _ c.args.self.now.ok (leb-true _ _ (sym c.if-not-is_long.ensures))
 
 pub overflow_add-result-2 : goal.overflow_add-result-2
 overflow_add-result-2 c = omega (arith, used_within slots (seen c.args.self.now.rows.at.now), c.count_used.ensures, c.abs_diff-crossed.type_inv)

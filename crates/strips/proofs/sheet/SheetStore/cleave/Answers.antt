@@ -45,6 +45,6 @@ returns c = record {
       let rs = s.rows.at.now in
       let may = sym (told bs rs a.edge a.east a.at c.has_room-fits.result true c.if-not-may_cleave.ensures c.has_room-fits.ensures) in
       let h = cleavable bs rs s.ok a.edge a.east a.at c.in-Some.to may (sym c.east_end.ensures ∙ c.in-Some.is) in
-      same_frame bs rs _ h.stripped.core.roomy.long c.cleave_through.ensures.stripped;
+      same_frame bs rs _ h.stripped.core.long c.cleave_through.ensures.stripped;
   kept = λ f. absurd (true≢false f);
 }

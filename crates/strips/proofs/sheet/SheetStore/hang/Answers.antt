@@ -38,6 +38,6 @@ returns c = record {
       let w = c.west_to_east in
       let may = sym (told bs rs a.edge a.a a.b c.has_room-fits.result true c.if-not-may_hang.ensures c.has_room-fits.ensures) in
       let h = hangable bs rs s.ok a.edge a.a a.b w.result may w.ensures.west w.ensures.east in
-      same_frame bs rs _ h.stripped.core.roomy.long c.hang_through.ensures.stripped;
+      same_frame bs rs _ h.stripped.core.long c.hang_through.ensures.stripped;
   kept = λ f. absurd (true≢false f);
 }

@@ -66,11 +66,14 @@ fn write_names(part: &mut [u8], names: &[i16])
     requires { length part.old ≡ 2 * length names.now }
     ensures { part.new ≡ flat_map i16_bytes names.now }
 {
-    write_each(part, names, 2, |h: i16|
-        ensures { result ≡ i16_bytes h }
-    {
-        h.to_le_bytes()
-    });
+    write_each(
+        part,
+        names,
+        2,
+        |h: i16|
+            ensures { result ≡ i16_bytes h }
+        { h.to_le_bytes() },
+    );
 }
 
 // Writes the slot that follows each name's, two bytes each.
@@ -87,14 +90,17 @@ fn write_followers<C: Chart>(
     requires slots { Slotted max_edge names.now slots.now }
     ensures { part.new ≡ flat_map (λ h. u16_bytes (follower_slot max_edge borders.now.items (lines_of C.Turning.turn C.Chart.points chart.now) strip h)) names.now }
 {
-    write_each(part, names, 2, |h: i16|
-        requires slotted { Slotted max_edge (names_in max_edge borders.now.items (lines_of C.Turning.turn C.Chart.points chart.now) strip) slots.now }
-        requires long { length slots.now ≡ marks_for max_edge }
-        requires held { (C.Turning.turn chart.now).held h ≡ true }
-        ensures { result ≡ u16_bytes (follower_slot max_edge borders.entry.now.items (lines_of C.Turning.turn C.Chart.points chart.entry.now) strip h) }
-    {
-        follower_slot(chart, borders, strip, h, slots).to_le_bytes()
-    });
+    write_each(
+        part,
+        names,
+        2,
+        |h: i16|
+            requires slotted { Slotted max_edge (names_in max_edge borders.now.items (lines_of C.Turning.turn C.Chart.points chart.now) strip) slots.now }
+            requires long { length slots.now ≡ marks_for max_edge }
+            requires held { (C.Turning.turn chart.now).held h ≡ true }
+            ensures { result ≡ u16_bytes (follower_slot max_edge borders.entry.now.items (lines_of C.Turning.turn C.Chart.points chart.entry.now) strip h) }
+        { follower_slot(chart, borders, strip, h, slots).to_le_bytes() },
+    );
 }
 
 // Writes the arrays of a strip with these names, and with a vertex where each of the first ones starts.
@@ -127,16 +133,22 @@ fn write_arrays<C: Chart>(
         names,
         &slots,
     );
-    write_each(&mut part[xs..ys], firsts, 4, |h: i16|
-        ensures { result ≡ i32_bytes (start_of (lines_of C.Turning.turn C.Chart.points chart.entry.now) h).x }
-    {
-        start_of(chart, h).x.to_le_bytes()
-    });
-    write_each(&mut part[ys..end], firsts, 4, |h: i16|
-        ensures { result ≡ i32_bytes (start_of (lines_of C.Turning.turn C.Chart.points chart.entry.now) h).y }
-    {
-        start_of(chart, h).y.to_le_bytes()
-    });
+    write_each(
+        &mut part[xs..ys],
+        firsts,
+        4,
+        |h: i16|
+            ensures { result ≡ i32_bytes (start_of (lines_of C.Turning.turn C.Chart.points chart.entry.now) h).x }
+        { start_of(chart, h).x.to_le_bytes() },
+    );
+    write_each(
+        &mut part[ys..end],
+        firsts,
+        4,
+        |h: i16|
+            ensures { result ≡ i32_bytes (start_of (lines_of C.Turning.turn C.Chart.points chart.entry.now) h).y }
+        { start_of(chart, h).y.to_le_bytes() },
+    );
 }
 
 // Writes the arrays of one strip.

@@ -43,13 +43,18 @@ fn write_sizes(part: &mut [u8], sizes: &[Sizes])
     requires { length part.old ≡ 4 * length sizes.now }
     ensures { part.new ≡ flat_map sizes_bytes sizes.now }
 {
-    write_each(part, sizes, 4, |size: Sizes|
-        ensures { result ≡ sizes_bytes size }
-    {
-        let [a, b] = size.vertices.to_le_bytes();
-        let [c, d] = size.slots.to_le_bytes();
-        [a, b, c, d]
-    });
+    write_each(
+        part,
+        sizes,
+        4,
+        |size: Sizes|
+            ensures { result ≡ sizes_bytes size }
+        {
+            let [a, b] = size.vertices.to_le_bytes();
+            let [c, d] = size.slots.to_le_bytes();
+            [a, b, c, d]
+        },
+    );
 }
 
 // Writes the borders, four bytes each.
@@ -57,11 +62,14 @@ fn write_borders(part: &mut [u8], borders: &Borders)
     requires { length part.old ≡ 4 * length borders.now.items }
     ensures { part.new ≡ flat_map i32_bytes borders.now.items }
 {
-    write_each(part, borders.as_slice(), 4, |x: i32|
-        ensures { result ≡ i32_bytes x }
-    {
-        x.to_le_bytes()
-    });
+    write_each(
+        part,
+        borders.as_slice(),
+        4,
+        |x: i32|
+            ensures { result ≡ i32_bytes x }
+        { x.to_le_bytes() },
+    );
 }
 
 // Writes what stands before the strips.

@@ -53,14 +53,14 @@ fn lower_of(found: Option<u16>, place: u16) -> u16
 }
 
 // The lowest place of a vertex that has the point of its left neighbour.
-// By index: of windows(2) with filter, map and min, the goal `returns` stayed open, that the run of `min` tells `Lowest`.
 fn lowest_repeat(sorted: &[Vertex]) -> Option<u16>
     ensures { Lowest sorted.now (length sorted.now) result }
 {
+    let (_, later) = sorted.split_first()?;
     let mut lowest = None;
-    for i in 1..sorted.len() {
-        if sorted[i - 1].is_with(sorted[i]) {
-            lowest = Some(lower_of(lowest, sorted[i].place));
+    for (left, vertex) in sorted.iter().zip(later) {
+        if left.is_with(*vertex) {
+            lowest = Some(lower_of(lowest, vertex.place));
         }
     }
     lowest

@@ -51,7 +51,7 @@ fn put_vertex(line: &mut [i16; LINE_NAMES], place: usize, v: u16)
     line[place] = (v + 1) as i16;
 }
 
-// A walk by the strip itself: the slot that is numbered next is the follower of this one.
+// A walk by the strip itself: the slot that is numbered next is the follower of this one. Why it is not one with `mark_round` of a strip's questions stands there.
 fn number_round(s: Strip<'_>, i: u16, v: u16, line: &mut [i16; LINE_NAMES])
     requires sound { Sound (told s) }
     requires slot { i < s.slots }

@@ -119,3 +119,29 @@ module _ (s : Strip) (i : ℕ) where
   pair_good m n low p q a b =
       both_good (names s i (s.name i)) (names s s.slots (s.name i)) (names s i (neg_ℤ (s.name i))) (names s s.slots (neg_ℤ (s.name i))) m n
       (held_later s i s.slots (neg_ℤ (s.name i)) low) p q a b
+
+put_in : (q a b : Bool) (o : ℕ) → (q ≡ true → a ≡ true) → cond q 1 (cond (a && b) 1 o) ≡ cond (a && (q || b)) 1 o
+put_in true a b o f = sym (ap (λ x. cond (x && true) 1 o) (f refl))
+put_in false a b o f = refl
+
+left_out : (q a b : Bool) (o : ℕ) → (q ≡ true → a ≡ false) → cond (a && b) 1 o ≡ cond (a && (q || b)) 1 o
+left_out true a b o f = ap (λ x. cond (x && b) 1 o) (f refl) ∙ sym (ap (λ x. cond (x && true) 1 o) (f refl))
+left_out false a b o f = refl
+
+-- the names that are wanted are marked: those of the lowest i slots, and then the next
+module _ (yes : ℤ → Bool) (s : Strip) (i : ℕ) where
+  pub wanted_marked : (m : List ℕ) (old : ℤ → ℕ) → length m ≡ marks_for max_edge → named max_edge (s.name i) ≡ true → yes (s.name i) ≡ true
+      → ((z : ℤ) → named max_edge z ≡ true → get_or m (mark_at max_edge z) 0 ≡ cond (yes z && names s i z) 1 (old z))
+      → (z : ℤ) → named max_edge z ≡ true → get_or (set m (mark_at max_edge (s.name i)) 1) (mark_at max_edge z) 0 ≡ cond (yes z && names s (i + 1) z) 1 (old z)
+  wanted_marked m old len good on before z h =
+      mark_set m (s.name i) 1 (λ y. cond (yes y && names s i y) 1 (old y)) len good before z h
+      ∙ put_in (equal (s.name i) z) (yes z) (names s i z) (old z) (λ e. ap yes (sym (equal_true (s.name i) z e)) ∙ on)
+      ∙ ap (λ b. cond (yes z && b) 1 (old z)) (sym (any_more (λ k. equal (s.name k) z) i))
+
+  pub wanted_passed : (m : List ℕ) (old : ℤ → ℕ) → yes (s.name i) ≡ false
+      → ((z : ℤ) → named max_edge z ≡ true → get_or m (mark_at max_edge z) 0 ≡ cond (yes z && names s i z) 1 (old z))
+      → (z : ℤ) → named max_edge z ≡ true → get_or m (mark_at max_edge z) 0 ≡ cond (yes z && names s (i + 1) z) 1 (old z)
+  wanted_passed m old off before z h =
+      before z h
+      ∙ left_out (equal (s.name i) z) (yes z) (names s i z) (old z) (λ e. ap yes (sym (equal_true (s.name i) z e)) ∙ off)
+      ∙ ap (λ b. cond (yes z && b) 1 (old z)) (sym (any_more (λ k. equal (s.name k) z) i))

@@ -1,14 +1,10 @@
 -- Marks by side. Assumes nothing.
-use Rattle.std.proofs.Common.{◌≡◌, ℕ, zero, suc, ◌+◌, ◌<◌, Bool, true, false, cond, not, ◌&&◌, ◌||◌, eqb, ltb, List, length, get_or, set, ℤ, pos, negsuc, Some, None, sym, refl, ap, ◌∙◌, subst, add-one, arith}
+use Rattle.std.proofs.Common.{◌≡◌, ℕ, zero, suc, ◌+◌, ◌<◌, Bool, true, false, cond, not, ◌&&◌, ◌||◌, eqb, ltb, List, ℤ, pos, negsuc, Some, None, sym, refl, ap, ◌∙◌, subst, add-one, arith}
 use mathlib.Core.Bool.{beq}
-use Rattle.flat.specs.Whole.{equal}
-use Rattle.turning.specs.Limits.{max_edge, marks_for}
+use Rattle.turning.specs.Limits.{max_edge}
 use Rattle.file.specs.Strips.{Strip, home, names}
 use Rattle.file.specs.Questions.{named, positive}
-use Rattle.file.proofs.Places.{any_more}
-use Rattle.search.specs.Marks.{place as mark_at}
-use Rattle.strip_questions.proofs.Marks.{mark_set, equal_true}
-use Rattle.seam_questions.specs.Sides.{on_side, side_names, west_of, east_of, neighbour_names, stands_right}
+use Rattle.seam_questions.specs.Sides.{side_names, west_of, east_of, neighbour_names, stands_right}
 use Rattle.flat.specs.Orbits.{indicator}
 use Rattle.file.specs.Questions.{beyond, name_good}
 use Rattle.file.specs.Layout.{strip}

@@ -1,10 +1,10 @@
 // The questions asked of a whole file.
 ghost use Rattle.std.specs.Prelude.{◌≡◌, ◌+◌, ◌-◌, ◌*◌, ◌<◌, ◌≤◌, [], ◌∷◌, length, IfOk};
 ghost use Rattle.std.specs.Result.{result_err};
-ghost use Rattle.turning.specs.Limits.{max_strips};
 ghost use Rattle.file.specs.Layout.{strips, strip_at};
 ghost use Rattle.file.specs.Places.{answered, first_of};
 ghost use Rattle.file.specs.Questions.{border_good};
+ghost use Rattle.file.specs.Shapes.{Counted};
 ghost use Rattle.file.specs.Verdict.{q1, q2, q3, q5, file_verdict};
 
 use crate::asking::ask_each;
@@ -32,15 +32,20 @@ fn count_strips(bytes: &[u8]) -> Result<u16, FileFault>
     Ok(count)
 }
 
-// Question 3: where the strips end. A loop, and not `ask_each`: each turn adds to the sums that the next one is asked of.
-fn sizes_fit(bytes: &[u8], count: u16) -> Result<usize, FileFault>
-    requires count { count ≡ strips bytes.now }
-    requires some { 1 ≤ count }
-    requires few { count ≤ max_strips }
-    requires there { 2 + 4 * count ≤ length bytes.now }
-    ensures { result ≡ answered (q3 bytes.now) (strip_at bytes.now count) }
+// A file that tells how many strips it has, and has the sizes of them all.
+#[derive(Clone, Copy)]
+struct Head<'a> {
+    bytes: &'a [u8],
+    count: u16,
+    ghost counted: { Counted bytes.now count },
+}
+
+// Question 3: where the strips end. A loop, and neither `ask_each` nor `try_fold`: each turn reads on and adds to two sums that the next one is asked of.
+fn sizes_fit(head: Head<'_>) -> Result<usize, FileFault>
+    ensures { result ≡ answered (q3 head.entry.bytes.now) (strip_at head.entry.bytes.now head.entry.count) }
 {
-    let mut reader = Reader::new(bytes, 2);
+    let count = head.count;
+    let mut reader = Reader::new(head.bytes, 2);
     let mut total: u32 = 0;
     let mut end: usize = 2 + 4 * count as usize + 4 * (count as usize - 1);
     for j in 0..count {
@@ -54,27 +59,22 @@ fn sizes_fit(bytes: &[u8], count: u16) -> Result<usize, FileFault>
     Ok(end)
 }
 
-fn border_good(bytes: &[u8], count: u16, k: u16) -> bool
-    requires count { count ≡ strips bytes.now }
-    requires few { count ≤ max_strips }
-    requires between { k + 1 < count }
-    requires there { 2 + 4 * count + 4 * (count - 1) ≤ length bytes.now }
-    ensures { result ≡ border_good bytes.now k }
+fn border_good(head: Head<'_>, k: u16) -> bool
+    requires between { k + 1 < head.count }
+    requires borders { 2 + 4 * head.count + 4 * (head.count - 1) ≤ length head.bytes.now }
+    ensures { result ≡ border_good head.entry.bytes.now k }
 {
-    let here = border_at(bytes, count, k);
-    is_within(here) && (k == 0 || border_at(bytes, count, k - 1) < here)
+    let here = border_at(head.bytes, head.count, k);
+    is_within(here) && (k == 0 || border_at(head.bytes, head.count, k - 1) < here)
 }
 
 // Question 5.
-fn borders_rise(bytes: &[u8], count: u16) -> Result<(), FileFault>
-    requires count { count ≡ strips bytes.now }
-    requires some { 1 ≤ count }
-    requires few { count ≤ max_strips }
-    requires there { 2 + 4 * count + 4 * (count - 1) ≤ length bytes.now }
-    ensures { result ≡ answered (q5 bytes.now) tt }
+fn borders_rise(head: Head<'_>) -> Result<(), FileFault>
+    requires borders { 2 + 4 * head.count + 4 * (head.count - 1) ≤ length head.bytes.now }
+    ensures { result ≡ answered (q5 head.entry.bytes.now) tt }
 {
-    ask_each(FileQuestion::Borders, 0, count - 1, |k| {
-        border_good(bytes, count, k)
+    ask_each(FileQuestion::Borders, 0, head.count - 1, |k| {
+        border_good(head, k)
     })
 }
 
@@ -84,10 +84,11 @@ pub fn ask_file(bytes: &[u8]) -> Result<File<'_>, FileFault>
     ensures file { IfOk result (λ f. f.bytes.now ≡ bytes.now) }
 {
     let count = count_strips(bytes)?;
-    let end = sizes_fit(bytes, count)?;
+    let head = Head { bytes, count };
+    let end = sizes_fit(head)?;
     if bytes.len() != end {
         return Err(QuestionFault::new(FileQuestion::Length, 0, 0));
     }
-    borders_rise(bytes, count)?;
+    borders_rise(head)?;
     Ok(File { bytes, count })
 }

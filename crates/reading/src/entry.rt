@@ -4,8 +4,8 @@ ghost use Rattle.turning.specs.Limits.{max_edge, marks_for};
 ghost use Rattle.reading.specs.Entries.{entry_of};
 
 use chart::point::Point;
+use search::marks::place_of;
 use strip_questions::names::name_good;
-use strip_questions::place::place_of;
 
 // A name's follower, its predecessor and the point where it starts, if it is held.
 #[derive(Clone, Copy)]

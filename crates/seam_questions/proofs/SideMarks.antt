@@ -1,44 +1,15 @@
 -- Marks by side. Assumes nothing.
-use Rattle.std.proofs.Common.{◌≡◌, ℕ, zero, suc, ◌+◌, ◌<◌, Bool, true, false, cond, not, ◌&&◌, ◌||◌, eqb, ltb, List, length, get_or, set, ℤ, pos, negsuc, Some, None, sym, refl, ap, ◌∙◌, subst, add-one, arith}
+use Rattle.std.proofs.Common.{◌≡◌, ℕ, zero, suc, ◌+◌, ◌<◌, Bool, true, false, cond, not, ◌&&◌, ◌||◌, eqb, ltb, List, ℤ, pos, negsuc, Some, None, sym, refl, ap, ◌∙◌, subst, add-one, arith}
 use mathlib.Core.Bool.{beq}
-use Rattle.flat.specs.Whole.{equal}
-use Rattle.turning.specs.Limits.{max_edge, marks_for}
+use Rattle.turning.specs.Limits.{max_edge}
 use Rattle.file.specs.Strips.{Strip, home, names}
 use Rattle.file.specs.Questions.{named, positive}
-use Rattle.file.proofs.Places.{any_more}
-use Rattle.search.specs.Marks.{place as mark_at}
-use Rattle.strip_questions.proofs.Marks.{mark_set, equal_true}
-use Rattle.seam_questions.specs.Sides.{on_side, side_names, west_of, east_of, neighbour_names, stands_right}
+use Rattle.seam_questions.specs.Sides.{side_names, west_of, east_of, neighbour_names, stands_right}
 use Rattle.flat.specs.Orbits.{indicator}
 use Rattle.file.specs.Questions.{beyond, name_good}
 use Rattle.file.specs.Layout.{strip}
 use Rattle.file.specs.Judged.{Judged}
 use Rattle.std.proofs.lemmas.Bool.Decides.{nat_tests}
-
-put_in : (q a b : Bool) (o : ℕ) → (q ≡ true → a ≡ true) → cond q 1 (cond (a && b) 1 o) ≡ cond (a && (q || b)) 1 o
-put_in true a b o f = sym (ap (λ x. cond (x && true) 1 o) (f refl))
-put_in false a b o f = refl
-
-left_out : (q a b : Bool) (o : ℕ) → (q ≡ true → a ≡ false) → cond (a && b) 1 o ≡ cond (a && (q || b)) 1 o
-left_out true a b o f = ap (λ x. cond (x && b) 1 o) (f refl) ∙ sym (ap (λ x. cond (x && true) 1 o) (f refl))
-left_out false a b o f = refl
-
-module _ (side : Bool) (s : Strip) (i : ℕ) where
-  pub side_marked : (m : List ℕ) (old : ℤ → ℕ) → length m ≡ marks_for max_edge → named max_edge (s.name i) ≡ true → on_side side (s.name i) ≡ true
-      → ((z : ℤ) → named max_edge z ≡ true → get_or m (mark_at max_edge z) 0 ≡ cond (side_names side s i z) 1 (old z))
-      → (z : ℤ) → named max_edge z ≡ true → get_or (set m (mark_at max_edge (s.name i)) 1) (mark_at max_edge z) 0 ≡ cond (side_names side s (i + 1) z) 1 (old z)
-  side_marked m old len good on before z h =
-      mark_set m (s.name i) 1 (λ y. cond (side_names side s i y) 1 (old y)) len good before z h
-      ∙ put_in (equal (s.name i) z) (on_side side z) (names s i z) (old z) (λ e. ap (on_side side) (sym (equal_true (s.name i) z e)) ∙ on)
-      ∙ ap (λ b. cond (on_side side z && b) 1 (old z)) (sym (any_more (λ k. equal (s.name k) z) i))
-
-  pub side_passed : (m : List ℕ) (old : ℤ → ℕ) → on_side side (s.name i) ≡ false
-      → ((z : ℤ) → named max_edge z ≡ true → get_or m (mark_at max_edge z) 0 ≡ cond (side_names side s i z) 1 (old z))
-      → (z : ℤ) → named max_edge z ≡ true → get_or m (mark_at max_edge z) 0 ≡ cond (side_names side s (i + 1) z) 1 (old z)
-  side_passed m old off before z h =
-      before z h
-      ∙ left_out (equal (s.name i) z) (on_side side z) (names s i z) (old z) (λ e. ap (on_side side) (sym (equal_true (s.name i) z e)) ∙ off)
-      ∙ ap (λ b. cond (on_side side z && b) 1 (old z)) (sym (any_more (λ k. equal (s.name k) z) i))
 
 -- the names of the neighbour to the east, by one test
 east_names : (n : ℕ) (at : ℕ → Strip) (j : ℕ) (z : ℤ) → neighbour_names false at (east_of n j) z ≡ (ltb (j + 1) n && side_names false (at (j + 1)) (at (j + 1)).slots z)

@@ -9,12 +9,12 @@ ghost use Rattle.file.specs.Views.{told};
 ghost use Rattle.search.specs.Marks.{place as mark_at};
 ghost use Rattle.seam_questions.specs.Sides.{neighbour_names, Marked, stands_right, asked_of};
 
-use crate::sides::{east_of, mark_side, west_of};
+use crate::sides::{east_of, is_on_side, west_of};
 use file::asking::ask_each;
 use file::parts::JudgedFile;
 use file::questions::{SeamFault, SeamQuestion};
 use file::view::Strip;
-use strip_questions::place::place_in;
+use strip_questions::place::{mark_names, place_in};
 use turning::limits::MARK_BYTES;
 
 fn mark_neighbour(
@@ -27,7 +27,7 @@ fn mark_neighbour(
     ensures { (z : ℤ) → named max_edge z ≡ true → slice_index marks.new (mark_at max_edge z) ≡ (if neighbour_names side (strip judged.entry.file.bytes.now) neighbour z then 1 else slice_index marks.old (mark_at max_edge z)) }
 {
     if let Some(k) = neighbour {
-        mark_side(judged.file.strip(k), side, marks);
+        mark_names(judged.file.strip(k), |name| is_on_side(side, name), marks);
     }
 }
 

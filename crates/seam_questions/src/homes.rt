@@ -41,7 +41,7 @@ fn claim_home(
     true
 }
 
-// A loop, and not `ask_each`: each slot is marked as it is asked, so that the next one is asked of other marks.
+// A loop, and not `ask_each`: each slot is marked as it is asked, so that the next one is asked of other marks. What an `FnMut` answers would have to be told call by call, as the loop does.
 fn all_claimed(
     judged: JudgedFile<'_>,
     j: u16,

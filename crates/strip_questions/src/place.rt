@@ -1,23 +1,16 @@
-// The place of a name's mark.
-ghost use Rattle.std.specs.Prelude.{◌≡◌, ◌<◌, true, neg_ℤ};
+// The marks of the names of a strip.
+ghost use Rattle.std.specs.Prelude.{◌≡◌, ℕ, ◌<◌, Bool, true, ◌&&◌, ℤ, if◌then◌else◌, slice_index};
 ghost use Rattle.turning.specs.Limits.{max_edge, marks_for};
 ghost use Rattle.file.specs.Questions.{named, name_good};
+ghost use Rattle.file.specs.Strips.{names};
 ghost use Rattle.file.specs.Views.{told};
 ghost use Rattle.search.specs.Marks.{place as mark_at};
 
 use file::view::Strip;
-use turning::limits::MAX_NAME;
+use search::marks::place_of;
+use turning::limits::MARK_BYTES;
 
-// The place of a name.
-pub fn place_of(name: i16) -> usize
-    requires { named max_edge name ≡ true }
-    ensures value { result ≡ mark_at max_edge name }
-    ensures within { result < marks_for max_edge }
-{
-    (name + MAX_NAME) as usize
-}
-
-// The place of the name in slot i.
+// The place of the name in slot i: `place_of`, of a name that question 6 has passed.
 pub fn place_in(s: Strip<'_>, i: u16) -> usize
     requires slot { i < s.slots }
     requires named { name_good max_edge (told s) i ≡ true }
@@ -27,12 +20,15 @@ pub fn place_in(s: Strip<'_>, i: u16) -> usize
     place_of(s.name(i))
 }
 
-// The place of its negation.
-pub fn place_against(s: Strip<'_>, i: u16) -> usize
-    requires slot { i < s.slots }
-    requires named { name_good max_edge (told s) i ≡ true }
-    ensures value { result ≡ mark_at max_edge (neg_ℤ ((told s.entry).name i)) }
-    ensures within { result < marks_for max_edge }
+// Marks the names of the strip that are wanted.
+pub fn mark_names<F: Fn(i16) -> bool>(s: Strip<'_>, wanted: F, marks: &mut [u8; MARK_BYTES])
+    requires callable { (h : ℤ) → F.pre wanted h }
+    requires named { (k : ℕ) → k < s.slots → name_good max_edge (told s) k ≡ true }
+    ensures { (yes : ℤ → Bool) → ((h : ℤ) (b : Bool) → F.post wanted h b → b ≡ yes h) → (z : ℤ) → named max_edge z ≡ true → slice_index marks.new (mark_at max_edge z) ≡ (if yes z && names (told s.entry) s.entry.slots z then 1 else slice_index marks.old (mark_at max_edge z)) }
 {
-    place_of(-s.name(i))
+    for i in 0..s.slots {
+        if wanted(s.name(i)) {
+            marks[place_in(s, i)] = 1;
+        }
+    }
 }

@@ -13,6 +13,7 @@ use file::view::Strip;
 use turning::limits::MARK_BYTES;
 
 // A walk by the strip itself: the slot that is marked next is the follower of this one.
+// `number_round` of the seams walks so too. As one function over an `FnMut`, its contract would have to tell each call in the order of the walk, and both callers to fold over them: more than these lines.
 fn mark_round(s: Strip<'_>, i: u16, marks: &mut [u8; MARK_BYTES])
     requires few { s.slots ≤ max_slots }
     requires turned { Turned (told s) }

@@ -4,7 +4,7 @@ ghost use Rattle.std.specs.List.{flat_map};
 ghost use Rattle.turning.specs.Limits.{max_edge, line_for, marks_for};
 ghost use Rattle.flat.specs.Orbits.{◌∈◌};
 ghost use Rattle.chart.specs.Linework.{lines_of};
-ghost use Rattle.search.specs.Marks.{Within, place as name_place};
+ghost use Rattle.search.specs.Marks.{Within};
 ghost use Rattle.writing.specs.Written.{u16_bytes, i16_bytes, i32_bytes, names_in, follower_slot, start_of, points_in, strip_bytes};
 ghost use Rattle.writing.specs.Gathers.{Slotted};
 
@@ -13,9 +13,10 @@ use crate::words::write_each;
 use chart::Chart;
 use chart::point::Point;
 use file::view::NONE;
+use search::marks::place_of;
 use strips::borders::Borders;
 use turning::Turning;
-use turning::limits::{LINE_NAMES, MARK_BYTES, MAX_NAME};
+use turning::limits::{LINE_NAMES, MARK_BYTES};
 
 const ORIGIN: Point = Point { x: 0, y: 0 };
 
@@ -26,14 +27,6 @@ fn start_of<C: Chart>(chart: &C, h: i16) -> Point
     chart.point(h).unwrap_or(ORIGIN)
 }
 
-// Where the slot of a name is noted.
-fn place(h: i16) -> usize
-    requires { Within max_edge h }
-    ensures { result ≡ name_place max_edge h }
-{
-    (h + MAX_NAME) as usize
-}
-
 // Notes for each name where in the list it stands; where it stands twice, the first place.
 fn note_slots(names: &[i16], slots: &mut [u16])
     requires within { (h : ℤ) → h ∈ names.now → Within max_edge h }
@@ -41,7 +34,7 @@ fn note_slots(names: &[i16], slots: &mut [u16])
     ensures { Slotted max_edge names.now slots.new }
 {
     for k in (0..names.len()).rev() {
-        let at = place(names[k]);
+        let at = place_of(names[k]);
         slots[at] = k as u16;
     }
 }
@@ -57,7 +50,7 @@ fn follower_slot<C: Chart>(chart: &C, borders: &Borders, strip: u16, h: i16, slo
     if !starts_in(chart, borders, strip, h) {
         return NONE;
     }
-    let at = place(chart.follower(h));
+    let at = place_of(chart.follower(h));
     slots[at]
 }
 

@@ -7,6 +7,6 @@ use Rattle.file.proofs.whole.sizes_fit.Given as goal
 
 abbrev pub invariant-loop-j : goal.invariant-loop-j
 invariant-loop-j l =
-    (l.total ≡ sum_below (slots_in l.bytes) l.j) × (l.total ≤ max_slots) × (l.end ≡ strip_at l.bytes l.j) × (l.end ≤ 300 + 12 * l.total)
-    × (first_bad (size_good l.bytes) l.j (strips l.bytes - l.j) ≡ first_bad (size_good l.bytes) 0 (strips l.bytes))
-    × (l.reader.at ≡ 2 + 4 * l.j) × (l.reader.bytes.now ≡ l.bytes)
+    (l.total ≡ sum_below (slots_in l.head.bytes.now) l.j) × (l.total ≤ max_slots) × (l.end ≡ strip_at l.head.bytes.now l.j) × (l.end ≤ 300 + 12 * l.total)
+    × (first_bad (size_good l.head.bytes.now) l.j (strips l.head.bytes.now - l.j) ≡ first_bad (size_good l.head.bytes.now) 0 (strips l.head.bytes.now))
+    × (l.reader.at ≡ 2 + 4 * l.j) × (l.reader.bytes.now ≡ l.head.bytes.now)

@@ -1,6 +1,5 @@
 use Rattle.std.proofs.Common.{not, rules}
 use Rattle.chart.specs.Points.{same_point}
-use Rattle.chart.proofs.Compared.{points_equal}
 use Rattle.file.specs.Views.{told}
 use Rattle.file.proofs.Places.{none_each}
 use Rattle.strip_questions.proofs.plain.point_new.Goals as goal

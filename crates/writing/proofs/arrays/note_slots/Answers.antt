@@ -9,8 +9,8 @@ use Rattle.writing.proofs.arrays.note_slots.Goals as goal
 pub loop-k-init : goal.loop-k-init
 loop-k-init c = noted_none max_edge (length c.args.names.now) c.args.names.now c.args.slots.now (omega arith)
 
-pub place-at-requires : goal.place-at-requires
-place-at-requires c =
+pub place_of-at-requires : goal.place_of-at-requires
+place_of-at-requires c =
     let k = c.loop-k.k in
     let z = get_or c.args.names.now (k - 1) (pos 0) in
     let f : SFits w16 z = search rules in
@@ -26,7 +26,7 @@ bounds-slots-at c =
     let last = c.loop-k.auto.k in
     let below : k - 1 < length c.args.names.now = omega (arith, c.loop-k-test.true) in
     let in_range = place_below max_edge z (c.requires.within z (element_in c.args.names.now (k - 1) (pos 0) below)) in
-    let is : c.place-at.result ≡ place max_edge z = c.place-at.ensures ∙ ap (place max_edge) (to_z-of_z w16 z f) in
+    let is : c.place_of-at.result ≡ place max_edge z = c.place_of-at.ensures.value ∙ ap (place max_edge) (to_z-of_z w16 z f) in
     omega (arith, c.loop-k.auto.slots, c.requires.long.1)
 
 pub loop-k-preserved : goal.loop-k-preserved
@@ -39,7 +39,7 @@ loop-k-preserved c =
     let last = c.loop-k.auto.k in
     let below : k - 1 < length names = omega (arith, c.loop-k-test.true) in
     let long : length slots ≡ marks_for max_edge = c.loop-k.auto.slots ∙ c.requires.long.1 in
-    let is : place max_edge z ≡ c.place-at.result = sym (c.place-at.ensures ∙ ap (place max_edge) (to_z-of_z w16 z f)) in
+    let is : place max_edge z ≡ c.place_of-at.result = sym (c.place_of-at.ensures.value ∙ ap (place max_edge) (to_z-of_z w16 z f)) in
     let one : k ≡ (k - 1) + 1 = omega (arith, c.loop-k-test.true) in
     subst (λ p. NotedFrom max_edge (k - 1) names (set slots p (k - 1))) is
     (noted_more max_edge (k - 1) names slots c.requires.within long below (subst (λ m. NotedFrom max_edge m names slots) one c.loop-k.invariant))

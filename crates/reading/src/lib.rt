@@ -26,8 +26,7 @@ mod entry;
 mod laying;
 
 // Question 17: vertices + loops = edges + 2 × pieces.
-fn is_flat(sheet: &Sheet, marks: &mut [u8], line: &mut [i16]) -> bool
-    requires { (length marks.old ≡ marks_for max_edge) × (length line.old ≡ line_for max_edge) }
+fn is_flat(sheet: &Sheet, marks: &mut Marks, line: &mut Line) -> bool
     ensures { result ≡ flat max_edge (turn_of (seen sheet.now.rows.at.now)) }
 {
     let Ok(count) = counts(sheet, marks, line) else {
@@ -40,11 +39,11 @@ fn is_flat(sheet: &Sheet, marks: &mut [u8], line: &mut [i16]) -> bool
 fn read_into(
     sheet: &mut Sheet,
     bytes: &[u8],
-    marks: &mut [u8],
-    line: &mut [i16],
+    marks: &mut Marks,
+    line: &mut Line,
 ) -> Result<(), Fault>
-    requires buffers { (length marks.old ≡ marks_for max_edge) × (length line.old ≡ line_for max_edge) }
-    requires empty { (sheet.old.borders.items ≡ []) × (lines_in (seen sheet.old.rows.at.now) ≡ no_lines) }
+    requires uncut { sheet.old.borders.items ≡ [] }
+    requires empty { lines_in (seen sheet.old.rows.at.now) ≡ no_lines }
     ensures answer { result ≡ answered (sheet_verdict (nat_le slots (length sheet.old.rows.at.now)) bytes.now) tt }
     ensures read { Read result bytes.now sheet.new.borders.items sheet.new.rows.at.now }
     ensures length { length sheet.new.rows.at.now ≡ length sheet.old.rows.at.now }

@@ -1,4 +1,4 @@
-use Rattle.std.proofs.Common.{◌≡◌, true, false, leb, length, pos, Err, sym, refl, ap, ◌∙◌}
+use Rattle.std.proofs.Common.{◌≡◌, true, leb, length, pos, sym, ap, ◌∙◌}
 use Rattle.turning.specs.Limits.{max_edge, slots, marks_for, line_for}
 use Rattle.search.specs.Buffers.{enough}
 use Rattle.search.proofs.Buffers.{enough_both, line_short, given_zero, given_same, given_whole}

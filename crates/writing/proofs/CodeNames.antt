@@ -1,6 +1,6 @@
 -- The names of a strip, edge by edge, and which of them follow one another. Assumes nothing.
 use Rattle.std.proofs.Common.{◌≡◌, ℕ, zero, suc, ◌+◌, ◌-◌, ◌*◌, ◌<◌, ◌≤◌, Bool, true, false, cond, ◌&&◌, leb, List, [], ◌∷◌, ◌++◌, length, take, set, ℤ, pos, negsuc, neg_ℤ, sym, refl, ap, ◌∙◌, arith}
-use Rattle.std.proofs.lemmas.List.{take_more_set, append_assoc, append-nil, length-set}
+use Rattle.std.proofs.lemmas.List.{append_assoc, append-nil, length-append}
 use Rattle.std.proofs.lemmas.Bool.{both_ways, and_parts, and_from, eqb-true, le-leb}
 use Rattle.flat.specs.Orbits.{◌∈◌, filter}
 use Rattle.flat.proofs.Basics.{T_true}
@@ -32,14 +32,14 @@ filter_two p x y same = ap (λ b. cond (p x) (x ∷ cond b (y ∷ []) []) (cond 
     go true = refl
     go false = refl
 
--- the names of the edges below e stand first in the list
-pub record Collected (bs : List ℤ) (l : Linework) (i e : ℕ) (list : List ℤ) (count : ℕ) : Type 0 where
-  pub named : take count list ≡ names_in (e - 1) bs l i
-  pub few : count + 2 ≤ 2 * e
+-- the names of the edges below e are in the list
+pub record Collected (bs : List ℤ) (l : Linework) (i e : ℕ) (list : List ℤ) : Type 0 where
+  pub named : list ≡ names_in (e - 1) bs l i
+  pub few : length list + 2 ≤ 2 * e
 
-pub collected_none : (bs : List ℤ) (l : Linework) (i : ℕ) (list : List ℤ) → Collected bs l i 1 list 0
+pub collected_none : (bs : List ℤ) (l : Linework) (i : ℕ) (list : List ℤ) → list ≡ [] → Collected bs l i 1 list
 unfolding names_in names
-collected_none bs l i list = record { named = refl; few = omega arith }
+collected_none bs l i list none = let e = ap length none in record { named = none; few = omega arith }
 
 module _ (n : ℕ) (bs : List ℤ) (l : Linework) (law : Lawful n l.turn) (i : ℕ) where
   held_both : (j : ℕ) → l.turn.held (negsuc j) ≡ l.turn.held (pos (suc j))
@@ -68,28 +68,24 @@ module _ (n : ℕ) (bs : List ℤ) (l : Linework) (law : Lawful n l.turn) (i : �
       ap (λ k. names_in k bs l i) a ∙ names_more j ∙ ap (λ k. names_in k bs l i ++ cond (runs_through bs l i (pos (suc j))) (pos (suc j) ∷ (negsuc j ∷ [])) []) b
 
   -- the edge e runs through the strip, and both its names are put into the list
-  pub collected_both : (e : ℕ) (list : List ℤ) (count : ℕ) → 1 ≤ e → e ≤ n → length list ≡ 2 * n → Collected bs l i e list count → runs_through bs l i (pos e) ≡ true
-      → Collected bs l i (e + 1) (set (set list count (pos e)) (count + 1) (neg_ℤ (pos e))) (count + 2)
-  collected_both e list count one e-max long c runs =
-      let few : count + 2 ≤ 2 * e = c.few in
-      let here : count < length list = omega arith in
-      let there : count + 1 < length (set list count (pos e)) = simp length-set (omega arith) in
-      let two : count + 2 ≡ (count + 1) + 1 = omega arith in
+  pub collected_both : (e : ℕ) (list : List ℤ) → 1 ≤ e → Collected bs l i e list → runs_through bs l i (pos e) ≡ true
+      → Collected bs l i (e + 1) ((list ++ (pos e ∷ [])) ++ (neg_ℤ (pos e) ∷ []))
+  collected_both e list one c runs =
+      let few : length list + 2 ≤ 2 * e = c.few in
+      let long = length-append (list ++ (pos e ∷ [])) (neg_ℤ (pos e) ∷ []) in
+      let first = length-append list (pos e ∷ []) in
       record {
         named =
-            ap (λ k. take k (set (set list count (pos e)) (count + 1) (neg_ℤ (pos e)))) two
-            ∙ take_more_set (set list count (pos e)) (count + 1) (neg_ℤ (pos e)) there
-            ∙ ap (λ zs. zs ++ (neg_ℤ (pos e) ∷ [])) (take_more_set list count (pos e) here)
-            ∙ append_assoc (take count list) (pos e ∷ []) (neg_ℤ (pos e) ∷ [])
+            append_assoc list (pos e ∷ []) (neg_ℤ (pos e) ∷ [])
             ∙ ap (λ zs. zs ++ (pos e ∷ (neg_ℤ (pos e) ∷ []))) c.named
             ∙ sym (next_names e one ∙ ap (λ b. names_in (e - 1) bs l i ++ cond b (pos e ∷ (neg_ℤ (pos e) ∷ [])) []) runs);
         few = omega arith;
       }
 
   -- the edge e does not run through the strip
-  pub collected_past : (e : ℕ) (list : List ℤ) (count : ℕ) → 1 ≤ e → Collected bs l i e list count → runs_through bs l i (pos e) ≡ false → Collected bs l i (e + 1) list count
-  collected_past e list count one c off =
-      let few : count + 2 ≤ 2 * e = c.few in
+  pub collected_past : (e : ℕ) (list : List ℤ) → 1 ≤ e → Collected bs l i e list → runs_through bs l i (pos e) ≡ false → Collected bs l i (e + 1) list
+  collected_past e list one c off =
+      let few : length list + 2 ≤ 2 * e = c.few in
       record {
         named = c.named ∙ sym (next_names e one ∙ ap (λ b. names_in (e - 1) bs l i ++ cond b (pos e ∷ (neg_ℤ (pos e) ∷ [])) []) off ∙ append-nil (names_in (e - 1) bs l i));
         few = omega arith;

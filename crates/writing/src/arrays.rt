@@ -8,14 +8,14 @@ ghost use Rattle.search.specs.Marks.{Within, place as name_place};
 ghost use Rattle.writing.specs.Written.{u16_bytes, i16_bytes, i32_bytes, names_in, follower_slot, start_of, points_in, strip_bytes};
 ghost use Rattle.writing.specs.Gathers.{Slotted};
 
-use crate::gather::{gather, starts_in};
+use crate::gather::{Names, gather, starts_in};
 use crate::words::write_each;
 use chart::Chart;
 use chart::point::Point;
 use file::view::NONE;
 use strips::borders::Borders;
 use turning::Turning;
-use turning::limits::{LINE_NAMES, MARK_BYTES, MAX_NAME};
+use turning::limits::{MARK_BYTES, MAX_NAME};
 
 const ORIGIN: Point = Point { x: 0, y: 0 };
 
@@ -144,10 +144,15 @@ pub(crate) fn write_strip<C: Chart>(part: &mut [u8], chart: &C, borders: &Border
     requires { length part.old ≡ length (strip_bytes max_edge borders.now.items (lines_of C.Turning.turn C.Chart.points chart.now) strip) }
     ensures { part.new ≡ strip_bytes max_edge borders.now.items (lines_of C.Turning.turn C.Chart.points chart.now) strip }
 {
-    let mut names = [0; LINE_NAMES];
-    let mut firsts = [0; LINE_NAMES];
-    let sizes = gather(chart, borders, strip, &mut names, &mut firsts);
-    let own = &names[0..sizes.slots as usize];
-    let starts = &firsts[0..sizes.vertices as usize];
-    write_arrays(part, chart, borders, strip, own, starts);
+    let mut names = Names::new();
+    let mut firsts = Names::new();
+    gather(chart, borders, strip, &mut names, &mut firsts);
+    write_arrays(
+        part,
+        chart,
+        borders,
+        strip,
+        names.as_slice(),
+        firsts.as_slice(),
+    );
 }

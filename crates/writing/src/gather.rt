@@ -1,6 +1,6 @@
 // What one strip has: the names of its slots, and its vertices.
-ghost use Rattle.std.specs.Prelude.{◌≡◌, [], map, pos};
-ghost use Rattle.turning.specs.Limits.{max_edge};
+ghost use Rattle.std.specs.Prelude.{◌≡◌, ◌≤◌, [], map, length, pos};
+ghost use Rattle.turning.specs.Limits.{max_edge, line_for};
 ghost use Rattle.chart.specs.Linework.{lines_of};
 ghost use Rattle.search.specs.Marks.{Clean};
 ghost use Rattle.strips.specs.Borders.{runs_through};
@@ -59,17 +59,18 @@ fn collect_firsts<C: Chart>(
     chart: &C,
     borders: &Borders,
     strip: u16,
-    names: &Names,
+    names: &[i16],
     marks: &mut Marks,
     firsts: &mut Names,
 )
-    requires names { names.now.items ≡ names_in max_edge borders.now.items (lines_of C.Turning.turn C.Chart.points chart.now) strip }
+    requires names { names.now ≡ names_in max_edge borders.now.items (lines_of C.Turning.turn C.Chart.points chart.now) strip }
+    requires few { length names.now ≤ line_for max_edge }
     requires marks { Clean marks.old }
     requires empty { firsts.old.items ≡ [] }
     ensures { map (start_of (lines_of C.Turning.turn C.Chart.points chart.now)) firsts.new.items ≡ points_in max_edge borders.now.items (lines_of C.Turning.turn C.Chart.points chart.now) strip }
 {
     chart.placed();
-    for &h in names.as_slice() {
+    for &h in names {
         if starts_in(chart, borders, strip, h) && !is_marked(marks, h) {
             mark_round(chart, h, marks);
             firsts.push(h);
@@ -91,7 +92,14 @@ pub(crate) fn gather<C: Chart>(
 {
     let mut marks = [0; MARK_BYTES];
     collect_names(chart, borders, strip, names);
-    collect_firsts(chart, borders, strip, names, &mut marks, firsts);
+    collect_firsts(
+        chart,
+        borders,
+        strip,
+        names.as_slice(),
+        &mut marks,
+        firsts,
+    );
 }
 
 // How many vertices and slots the strip has.

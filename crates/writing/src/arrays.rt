@@ -1,8 +1,8 @@
 // The arrays of one strip, each over the whole of its own part of the file.
 ghost use Rattle.std.specs.Prelude.{◌≡◌, ◌+◌, ◌*◌, ◌≤◌, true, map, length, ℤ};
 ghost use Rattle.std.specs.List.{flat_map};
-ghost use Rattle.turning.specs.Limits.{max_edge, line_for, marks_for};
-ghost use Rattle.flat.specs.Orbits.{◌∈◌};
+ghost use Rattle.turning.specs.Limits.{max_edge, line_for};
+ghost use Rattle.flat.specs.Orbits.{◌∈◌, Distinct};
 ghost use Rattle.chart.specs.Linework.{lines_of};
 ghost use Rattle.search.specs.Marks.{Within, place as name_place};
 ghost use Rattle.writing.specs.Written.{u16_bytes, i16_bytes, i32_bytes, names_in, follower_slot, start_of, points_in, strip_bytes};
@@ -19,6 +19,9 @@ use turning::limits::{MARK_BYTES, MAX_NAME};
 
 const ORIGIN: Point = Point { x: 0, y: 0 };
 
+// For each name, at the place of its mark, the slot where it stands.
+type Slots = [u16; MARK_BYTES];
+
 // The point where a halfedge starts, or the origin where it starts nowhere.
 fn start_of<C: Chart>(chart: &C, h: i16) -> Point
     ensures { result ≡ start_of (lines_of C.Turning.turn C.Chart.points chart.now) h }
@@ -34,22 +37,21 @@ fn place(h: i16) -> usize
     (h + MAX_NAME) as usize
 }
 
-// Notes for each name where in the list it stands; where it stands twice, the first place.
-fn note_slots(names: &[i16], slots: &mut [u16])
+// Notes for each name where in the list it stands.
+fn note_slots(names: &[i16], slots: &mut Slots)
     requires within { (h : ℤ) → h ∈ names.now → Within max_edge h }
-    requires long { (length names.now ≤ line_for max_edge) × (length slots.old ≡ marks_for max_edge) }
+    requires apart { Distinct names.now }
+    requires few { length names.now ≤ line_for max_edge }
     ensures { Slotted max_edge names.now slots.new }
 {
-    for k in (0..names.len()).rev() {
-        let at = place(names[k]);
-        slots[at] = k as u16;
+    for (k, h) in names.iter().enumerate() {
+        slots[place(*h)] = k as u16;
     }
 }
 
 // The slot that follows that of h, or none where h starts in another strip.
-fn follower_slot<C: Chart>(chart: &C, borders: &Borders, strip: u16, h: i16, slots: &[u16]) -> u16
+fn follower_slot<C: Chart>(chart: &C, borders: &Borders, strip: u16, h: i16, slots: &Slots) -> u16
     requires slotted { Slotted max_edge (names_in max_edge borders.now.items (lines_of C.Turning.turn C.Chart.points chart.now) strip) slots.now }
-    requires long { length slots.now ≡ marks_for max_edge }
     requires held { (C.Turning.turn chart.now).held h ≡ true }
     ensures { result ≡ follower_slot max_edge borders.now.items (lines_of C.Turning.turn C.Chart.points chart.now) strip h }
 {
@@ -57,8 +59,7 @@ fn follower_slot<C: Chart>(chart: &C, borders: &Borders, strip: u16, h: i16, slo
     if !starts_in(chart, borders, strip, h) {
         return NONE;
     }
-    let at = place(chart.follower(h));
-    slots[at]
+    slots[place(chart.follower(h))]
 }
 
 // Writes the names, two bytes each.
@@ -80,16 +81,15 @@ fn write_followers<C: Chart>(
     borders: &Borders,
     strip: u16,
     names: &[i16],
-    slots: &[u16],
+    slots: &Slots,
 )
-    requires long { (length part.old ≡ 2 * length names.now) × (length slots.now ≡ marks_for max_edge) }
+    requires long { length part.old ≡ 2 * length names.now }
     requires names { names.now ≡ names_in max_edge borders.now.items (lines_of C.Turning.turn C.Chart.points chart.now) strip }
     requires slots { Slotted max_edge names.now slots.now }
     ensures { part.new ≡ flat_map (λ h. u16_bytes (follower_slot max_edge borders.now.items (lines_of C.Turning.turn C.Chart.points chart.now) strip h)) names.now }
 {
     write_each(part, names, 2, |h: i16|
         requires slotted { Slotted max_edge (names_in max_edge borders.now.items (lines_of C.Turning.turn C.Chart.points chart.now) strip) slots.now }
-        requires long { length slots.now ≡ marks_for max_edge }
         requires held { (C.Turning.turn chart.now).held h ≡ true }
         ensures { result ≡ u16_bytes (follower_slot max_edge borders.entry.now.items (lines_of C.Turning.turn C.Chart.points chart.entry.now) strip h) }
     {
@@ -112,7 +112,7 @@ fn write_arrays<C: Chart>(
     requires long { length part.old ≡ 4 * length names.now + 8 * length firsts.now }
     ensures { part.new ≡ strip_bytes max_edge borders.now.items (lines_of C.Turning.turn C.Chart.points chart.now) strip }
 {
-    let mut slots = [0; MARK_BYTES];
+    let mut slots: Slots = [0; MARK_BYTES];
     note_slots(names, &mut slots);
     let followers = 2 * names.len();
     let xs = 4 * names.len();

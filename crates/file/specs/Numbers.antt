@@ -7,6 +7,10 @@ use Rattle.file.specs.declared.questions.StripQuestion.{StripQuestion}
 use Rattle.file.specs.declared.questions.StripQuestion.TheVariants.{Names, Pairs, Followers, Followed, Rounds, Points, NewPoints}
 use Rattle.file.specs.declared.questions.SeamQuestion.{SeamQuestion}
 use Rattle.file.specs.declared.questions.SeamQuestion.TheVariants.{RunsOn, StartsHere, Homes, WestFirst}
+use Rattle.file.specs.declared.questions.FlatQuestion.{FlatQuestion}
+use Rattle.file.specs.declared.questions.FlatQuestion.TheVariants.{Flat}
+use Rattle.file.specs.declared.questions.CallQuestion.{CallQuestion}
+use Rattle.file.specs.declared.questions.CallQuestion.TheVariants.{Memory, Buffers}
 
 -- of a question of the whole file
 abbrev pub file_number : FileQuestion → ℕ
@@ -32,3 +36,12 @@ seam_number RunsOn = 13
 seam_number StartsHere = 14
 seam_number Homes = 15
 seam_number WestFirst = 16
+
+-- of the question of the line work
+abbrev pub flat_number : FlatQuestion → ℕ
+flat_number Flat = 17
+
+-- of a question of the call
+abbrev pub call_number : CallQuestion → ℕ
+call_number Memory = 18
+call_number Buffers = 20

@@ -13,7 +13,7 @@ pub enum Layer {
     Seam,
     // The line work as a whole: question 17.
     Flat,
-    // The call itself: its buffers are short.
+    // The call itself, what it is lent: questions 18 and 20.
     Call,
 }
 

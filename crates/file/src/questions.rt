@@ -1,5 +1,5 @@
-// The questions by their numbers: of the whole file, of each strip, and of the seams.
-ghost use Rattle.file.specs.declared.fault.Layer.TheVariants.{File, Strip, Seam};
+// The questions by their numbers: of the whole file, of each strip, of the seams, of the line work, and of the call.
+ghost use Rattle.file.specs.declared.fault.Layer.TheVariants.{File, Strip, Seam, Flat, Call};
 
 use crate::fault::{Layer, Question, QuestionFault};
 
@@ -50,6 +50,22 @@ pub enum SeamQuestion {
     WestFirst = 16,
 }
 
+// What is asked of the line work as a whole.
+#[derive(Clone, Copy, PartialEq, Eq, Debug, Drop)]
+pub enum FlatQuestion {
+    // It is flat.
+    Flat = 17,
+}
+
+// What is asked of the call itself.
+#[derive(Clone, Copy, PartialEq, Eq, Debug, Drop)]
+pub enum CallQuestion {
+    // The memory of the sheet is as long as it has to be.
+    Memory = 18,
+    // So are the working buffers.
+    Buffers = 20,
+}
+
 // A fault of the whole file.
 pub type FileFault = QuestionFault<FileQuestion>;
 
@@ -58,6 +74,12 @@ pub type StripFault = QuestionFault<StripQuestion>;
 
 // A fault of the seams.
 pub type SeamFault = QuestionFault<SeamQuestion>;
+
+// A fault of the line work.
+pub type FlatFault = QuestionFault<FlatQuestion>;
+
+// A fault of the call.
+pub type CallFault = QuestionFault<CallQuestion>;
 
 impl Question for FileQuestion {
     ghost use Rattle.file.specs.Numbers.{file_number};
@@ -95,6 +117,34 @@ impl Question for SeamQuestion {
     ghost number = { seam_number };
 
     const LAYER: Layer = Layer::Seam;
+
+    fn number(self) -> u8 {
+        self as u8
+    }
+}
+
+impl Question for FlatQuestion {
+    ghost use Rattle.file.specs.Numbers.{flat_number};
+
+    ghost LAYER = { Flat };
+
+    ghost number = { flat_number };
+
+    const LAYER: Layer = Layer::Flat;
+
+    fn number(self) -> u8 {
+        self as u8
+    }
+}
+
+impl Question for CallQuestion {
+    ghost use Rattle.file.specs.Numbers.{call_number};
+
+    ghost LAYER = { Call };
+
+    ghost number = { call_number };
+
+    const LAYER: Layer = Layer::Call;
 
     fn number(self) -> u8 {
         self as u8

@@ -9,7 +9,8 @@ ghost use Rattle.file.specs.Places.{answered};
 ghost use Rattle.file.specs.Verdict.{shape_verdict};
 ghost use Rattle.judge.specs.Judging.{verdict_by};
 
-use file::fault::{Fault, Layer};
+use file::fault::{Fault, QuestionFault};
+use file::questions::CallQuestion;
 use file::whole::ask_file;
 use seam_questions::asked::ask_seams;
 use search::marks::{Lent, Line, Marks};
@@ -42,12 +43,7 @@ pub fn judge(bytes: &[u8], marks: &mut [u8], line: &mut [i16]) -> Result<(), Fau
     ensures zero { marks.new ≡ given_back (enough max_edge marks.old line.old) (marks_for max_edge) 0 marks.old }
     ensures empty { line.new ≡ given_back (enough max_edge marks.old line.old) (line_for max_edge) (pos 0) line.old }
 {
-    let short = Fault {
-        layer: Layer::Call,
-        number: 20,
-        strip: 0,
-        place: 0,
-    };
+    let short = Fault::from(QuestionFault::new(CallQuestion::Buffers, 0, 0));
     let Some(marks) = marks.first_chunk_mut::<MARK_BYTES>() else {
         return Err(short);
     };

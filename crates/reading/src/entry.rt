@@ -3,8 +3,8 @@ ghost use Rattle.std.specs.Prelude.{◌≡◌};
 ghost use Rattle.reading.specs.Entries.{entry_of};
 
 use chart::point::Point;
+use search::marks::place_of;
 use strip_questions::names::name_good;
-use strip_questions::place::place_of;
 use turning::limits::MARK_BYTES;
 
 // The follower of a held name, its predecessor and the point where it starts.

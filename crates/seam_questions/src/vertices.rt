@@ -1,5 +1,5 @@
 // The vertices of a strip, numbered by the lowest slot of their rounds and kept in the line by name.
-ghost use Rattle.std.specs.Prelude.{◌≡◌, ℕ, ◌+◌, ◌<◌, ◌≤◌, true, length, replicate, pos, neg_ℤ, if◌then◌else◌, Some, slice_set};
+ghost use Rattle.std.specs.Prelude.{◌≡◌, ℕ, ◌+◌, ◌<◌, ◌≤◌, true, length, replicate, pos, if◌then◌else◌, Some, slice_set};
 ghost use Rattle.turning.specs.Limits.{max_edge, slots as max_slots, line_for};
 ghost use Rattle.file.specs.Questions.{named};
 ghost use Rattle.file.specs.Strips.{home, opens, met};
@@ -7,11 +7,11 @@ ghost use Rattle.file.specs.Views.{told};
 ghost use Rattle.seam_questions.specs.Vertices.{Sound, line_at, slot_at, vertex_at, NumberedBelow, Numbered};
 
 use file::view::Strip;
-use strip_questions::place::place_of;
+use search::marks::place_of;
 use turning::limits::LINE_NAMES;
 
-// The line has no place for 0: the names above it move up by one.
-fn line_place(name: i16) -> usize
+// The place of a name. The line has none for 0: the names above it move up by one.
+pub(crate) fn line_of(name: i16) -> usize
     requires { named max_edge name ≡ true }
     ensures value { result ≡ line_at max_edge name }
     ensures within { result < line_for max_edge }
@@ -27,17 +27,7 @@ pub fn line_in(s: Strip<'_>, i: u16) -> usize
     ensures value { result ≡ slot_at (told s.entry) i }
     ensures within { result < line_for max_edge }
 {
-    line_place(s.name(i))
-}
-
-// The place of its negation.
-pub fn line_against(s: Strip<'_>, i: u16) -> usize
-    requires slot { i < s.slots }
-    requires sound { Sound (told s) }
-    ensures value { result ≡ line_at max_edge (neg_ℤ ((told s.entry).name i)) }
-    ensures within { result < line_for max_edge }
-{
-    line_place(-s.name(i))
+    line_of(s.name(i))
 }
 
 // The vertex at a place of the line.

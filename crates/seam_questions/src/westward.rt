@@ -8,7 +8,7 @@ ghost use Rattle.file.specs.Verdict.{seam_fault, q16};
 ghost use Rattle.file.specs.Views.{told};
 ghost use Rattle.seam_questions.specs.Vertices.{Sound, Numbered, westward};
 
-use crate::vertices::{line_against, line_in, number_vertices, vertex_at};
+use crate::vertices::{line_in, line_of, number_vertices, vertex_at};
 use file::asking::ask_each;
 use file::parts::JudgedFile;
 use file::questions::{SeamFault, SeamQuestion};
@@ -36,7 +36,7 @@ fn is_westward(s: Strip<'_>, i: u16, line: &[i16; LINE_NAMES]) -> bool
         return true;
     }
     let p = vertex_at(line, line_in(s, i));
-    let q = vertex_at(line, line_against(s, i));
+    let q = vertex_at(line, line_of(-s.name(i)));
     is_west(s, p, q)
 }
 

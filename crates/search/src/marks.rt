@@ -1,6 +1,6 @@
 // Working buffers that are lent: marks, a byte for each name and for 0, and a line of names.
-ghost use Rattle.std.specs.Prelude.{◌≡◌, length, replicate, pos, slice_set};
-ghost use Rattle.turning.specs.Limits.{max_edge};
+ghost use Rattle.std.specs.Prelude.{◌≡◌, ◌<◌, length, replicate, pos, slice_set};
+ghost use Rattle.turning.specs.Limits.{max_edge, marks_for};
 ghost use Rattle.search.specs.Marks.{Within, place, marked};
 
 use turning::limits::{LINE_NAMES, MARK_BYTES, MAX_NAME};
@@ -50,12 +50,21 @@ impl<B: Buffer> Drop for Lent<'_, B> {
     }
 }
 
+// Where the mark of h lies.
+pub fn place_of(h: i16) -> usize
+    requires { Within max_edge h }
+    ensures value { result ≡ place max_edge h }
+    ensures within { result < marks_for max_edge }
+{
+    (h + MAX_NAME) as usize
+}
+
 // Whether h is marked.
 pub fn is_marked(marks: &Marks, h: i16) -> bool
     requires { Within max_edge h }
     ensures { result ≡ marked max_edge marks.now h }
 {
-    marks[(h + MAX_NAME) as usize] != 0
+    marks[place_of(h)] != 0
 }
 
 // Marks h.
@@ -63,5 +72,5 @@ pub fn mark(marks: &mut Marks, h: i16)
     requires { Within max_edge h }
     ensures { marks.new ≡ slice_set marks.old (place max_edge h) 1 }
 {
-    marks[(h + MAX_NAME) as usize] = 1;
+    marks[place_of(h)] = 1;
 }

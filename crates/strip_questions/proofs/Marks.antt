@@ -1,5 +1,5 @@
 -- Marks at the places of names. Assumes nothing.
-use Rattle.std.proofs.Common.{◌≡◌, ℕ, zero, suc, ◌+◌, ◌<◌, ◌≤◌, Bool, true, false, cond, not, ◌&&◌, ◌||◌, ◌≢◌, List, length, get_or, set, ℤ, pos, negsuc, ◌-ℤ◌, neg_ℤ, sym, refl, ap, ◌∙◌, subst, ⊎_elim, arith, w16, SFits, to_z, of_z}
+use Rattle.std.proofs.Common.{◌≡◌, ℕ, zero, suc, ◌+◌, ◌<◌, ◌≤◌, Bool, true, false, cond, not, ◌&&◌, ◌||◌, ◌≢◌, List, length, get_or, set, ℤ, pos, negsuc, ◌-ℤ◌, neg_ℤ, sym, refl, ap, ◌∙◌, subst, ⊎_elim, arith, w16, to_z, of_z}
 use Rattle.std.proofs.lemmas.Bool.{cond-true, cond-false, cases_Bool, eqb-true, eqb-false, eq-eqb}
 use Rattle.std.proofs.lemmas.List.{get_or-set_same, get_or-set_other}
 use Rattle.std.proofs.lemmas.Bool.Decides.{nat_tests}
@@ -9,7 +9,8 @@ use Rattle.turning.specs.Limits.{max_edge, marks_for}
 use Rattle.file.specs.Strips.{Strip, names}
 use Rattle.file.specs.Questions.{named, paired}
 use Rattle.file.proofs.Places.{any_more, any_here, any_where}
-use Rattle.search.specs.Marks.{place as mark_at}
+use Rattle.search.specs.Marks.{Within, place as mark_at}
+use Rattle.search.proofs.Marking.{name_fits}
 
 pub mark_within : (z : ℤ) → named max_edge z ≡ true → mark_at max_edge z < marks_for max_edge
 mark_within (pos n) h = grind (arith, nat_tests)
@@ -72,23 +73,27 @@ named_neg (pos zero) h = h
 named_neg (pos (suc n)) h = grind (arith, nat_tests)
 named_neg (negsuc n) h = grind (arith, nat_tests)
 
--- what `-name` is to the checker
+-- what a name of a slot, and its negation, are to the checker
 small_pos : (n : ℕ) → named max_edge (pos n) ≡ true → n ≤ max_edge
 small_pos n h = grind (arith, nat_tests)
 
 small_neg : (n : ℕ) → named max_edge (negsuc n) ≡ true → n < max_edge
 small_neg n h = grind (arith, nat_tests)
 
+pub named_within : (z : ℤ) → named max_edge z ≡ true → Within max_edge z
+named_within (pos n) h = record { low = omega (arith, ints); high = omega (arith, ints, small_pos n h) }
+named_within (negsuc n) h = record { low = omega (arith, ints, small_neg n h); high = omega (arith, ints) }
+
 zero_sub : (z : ℤ) → pos 0 -ℤ z ≡ neg_ℤ z
 zero_sub z = omega (arith, ints)
 
-fits_neg : (z : ℤ) → named max_edge z ≡ true → SFits w16 (neg_ℤ z)
-fits_neg (pos zero) h = record { sfits = omega arith }
-fits_neg (pos (suc n)) h = record { sfits = omega (arith, small_pos (suc n) h) }
-fits_neg (negsuc n) h = record { sfits = omega (arith, small_neg n h) }
+module _ (x z : ℤ) (e : x ≡ z) (h : named max_edge z ≡ true) where
+  pub name_is : to_z w16 (of_z w16 x) ≡ z
+  name_is = ap (λ y. to_z w16 (of_z w16 y)) e ∙ to_z-of_z w16 z (name_fits z (named_within z h))
 
-pub neg_is : (z : ℤ) → SFits w16 z → named max_edge z ≡ true → to_z w16 (of_z w16 (pos 0 -ℤ to_z w16 (of_z w16 z))) ≡ neg_ℤ z
-neg_is z f h = ap (λ y. to_z w16 (of_z w16 (pos 0 -ℤ y))) (to_z-of_z w16 z f) ∙ ap (λ y. to_z w16 (of_z w16 y)) (zero_sub z) ∙ to_z-of_z w16 (neg_ℤ z) (fits_neg z h)
+  pub neg_is : to_z w16 (of_z w16 (pos 0 -ℤ to_z w16 (of_z w16 x))) ≡ neg_ℤ z
+  neg_is = ap (λ y. to_z w16 (of_z w16 (pos 0 -ℤ y))) name_is ∙ ap (λ y. to_z w16 (of_z w16 y)) (zero_sub z)
+      ∙ to_z-of_z w16 (neg_ℤ z) (name_fits (neg_ℤ z) (named_within (neg_ℤ z) (named_neg z h)))
 
 both_good : (s x t y : Bool) (m n : ℕ) → (t ≡ true → y ≡ true) → m ≡ cond s 2 (cond x 1 0) → n ≡ cond t 2 (cond y 1 0) → (m ≡ 2 → ⊥) → (n ≡ 0 → ⊥) → (not s && y) ≡ true
 both_good s x t y m n mono p q a b = grind arith

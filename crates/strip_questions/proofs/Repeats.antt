@@ -1,9 +1,11 @@
 -- Once sorted, the vertices that have the point of an earlier one are those that have the point of their left neighbour. Assumes nothing.
-use Rattle.std.proofs.Common.{◌≡◌, ℕ, ◌+◌, ◌-◌, ◌<◌, ◌≤◌, true, false, cond, not, eqb, ltb, ◌⊎◌, List, length, get_or, set, Some, None, Option, sym, refl, ap, ◌∙◌, subst, ⊎_elim, arith}
+use Rattle.std.proofs.Common.{◌≡◌, ℕ, suc, ◌∷◌, drop, ◌+◌, ◌-◌, ◌<◌, ◌≤◌, true, false, cond, not, eqb, ltb, ◌⊎◌, List, length, get_or, set, Some, None, Option, sym, refl, ap, ◌∙◌, subst, ⊎_elim, arith}
+use Rattle.std.proofs.Math.Seq.{drop-cons}
 use Rattle.std.specs.List.Sorted.{IsPermutation, IsSorted}
 use Rattle.std.specs.List.{swap, Contains}
 use Rattle.std.proofs.lemmas.List.Edits.{swap_is, length-swap}
 use Rattle.std.proofs.lemmas.List.Elements.{All-get_or, All-from_get_or, Contains-get_or, at_from_Contains}
+use Rattle.std.proofs.lemmas.List.{length-drop}
 use Rattle.std.proofs.lemmas.List.{get_or-set_same, get_or-set_other, length-set}
 use Rattle.std.proofs.lemmas.List.Sorted.{IsPermutation-keeps, All-permutation, Contains-permutation}
 use Rattle.std.proofs.lemmas.Bool.{cases_Bool, cases_cond, cases_eq, cases_order, not-false}
@@ -154,3 +156,25 @@ lowest_found xs n (Some k) p e h =
       ⊎_elim (λ q. (h.0.0, h.0.1, omega arith, h.0.3, h.0.4 ∙ sym q)) (λ q. (n, p, omega arith, e, sym q)) (lower_is k m),
       λ i g l t. ⊎_elim (λ q. omega (arith, ap (λ j. (get_or xs j blank).place) q, least.1)) (λ q. omega (arith, least.0, h.1 i g (omega arith) t)) (cases_eq i n),
     )
+
+-- ---- the pairs of neighbours, one after the other
+-- what a list has from place n on begins with its entry n
+next_of : (xs : List Vertex) (n : ℕ) (u : Vertex) (us : List Vertex) → u ∷ us ≡ drop n xs → (n < length xs) × (u ≡ get_or xs n blank) × (us ≡ drop (suc n) xs)
+next_of xs n u us e =
+    let l : n < length xs = omega (arith, ap length e, length-drop n xs) in
+    let p = e ∙ drop-cons xs n blank l in
+    (l, ap (λ zs. get_or zs 0 blank) p, ap (drop 1) p)
+
+pub on_pair : (xs : List Vertex) (n : ℕ) (u w : Vertex) (us ws : List Vertex) → u ∷ us ≡ drop n xs → w ∷ ws ≡ drop (suc n) xs
+    → (suc n < length xs) × (us ≡ drop (suc n) xs) × (ws ≡ drop (suc (suc n)) xs) × (together u w ≡ repeats xs (suc n)) × (w ≡ get_or xs (suc n) blank)
+on_pair xs n u w us ws a b =
+    let p = next_of xs n u us a in
+    let q = next_of xs (suc n) w ws b in
+    let back : n ≡ suc n - 1 = omega arith in
+    (q.0, p.2, q.2, ap (λ v. together v w) (p.1 ∙ ap (λ m. get_or xs m blank) back) ∙ ap (together (get_or xs (suc n - 1) blank)) q.1, q.1)
+
+pub some_left : (xs : List Vertex) (n : ℕ) (us : List Vertex) → n < length xs → us ≡ drop n xs → length us ≡ 0 → ⊥
+some_left xs n us l e z = omega (arith, ap length e, length-drop n xs)
+
+pub none_left : (xs : List Vertex) (n : ℕ) (ws : List Vertex) → n < length xs → ws ≡ drop (suc n) xs → length ws ≡ 0 → suc n ≡ length xs
+none_left xs n ws l e z = omega (arith, ap length e, length-drop (suc n) xs)

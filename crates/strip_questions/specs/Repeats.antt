@@ -1,21 +1,21 @@
 -- Vertices sorted by their points: which have the point of the one before.
 -- Assumes nothing.
-use Rattle.std.specs.Prelude.{◌≡◌, ℕ, ◌-◌, ◌<◌, ◌≤◌, Bool, true, false, cond, ◌&&◌, List, length, get_or, pos, Some, None, Option, nat_lt, slice_index_or}
-use Rattle.flat.specs.Whole.{equal}
+use Rattle.std.specs.Prelude.{◌≡◌, ℕ, ◌-◌, ◌<◌, ◌≤◌, Bool, true, false, cond, List, length, get_or, pos, Some, None, Option, nat_lt, slice_index_or}
+use Rattle.chart.specs.Points.{same_point}
 use Rattle.file.specs.Strips.{Strip}
 use Rattle.strip_questions.specs.declared.points.Vertex.{Vertex}
 
 -- no vertex: what a list has beyond its end
 abbrev pub blank : Vertex
-blank = record { x = pos 0; y = pos 0; place = 0 }
+blank = record { point = record { x = pos 0; y = pos 0 }; place = 0 }
 
 -- vertex k of the strip
 abbrev pub vertex_at : Strip → ℕ → Vertex
-vertex_at s k = record { x = (s.point k).x; y = (s.point k).y; place = k }
+vertex_at s k = record { point = s.point k; place = k }
 
 -- the two vertices have one point
 abbrev pub together : Vertex → Vertex → Bool
-together u w = equal u.x w.x && equal u.y w.y
+together u w = same_point u.point w.point
 
 -- the list has the vertices of the strip in the order of their places
 pub record Listed (s : Strip) (xs : List Vertex) : Type 0 where

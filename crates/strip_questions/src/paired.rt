@@ -8,10 +8,11 @@ ghost use Rattle.file.specs.Verdict.{q7};
 ghost use Rattle.file.specs.Views.{told};
 ghost use Rattle.search.specs.Marks.{place as mark_at};
 
-use crate::place::{place_against, place_in};
+use crate::place::place_in;
 use file::fault::QuestionFault;
 use file::questions::{StripFault, StripQuestion};
 use file::view::Strip;
+use search::marks::place_of;
 use turning::limits::MARK_BYTES;
 
 fn mark_all(s: Strip<'_>, marks: &mut [u8; MARK_BYTES])
@@ -32,7 +33,7 @@ fn find_unpaired(s: Strip<'_>, number: u16, marks: &mut [u8; MARK_BYTES]) -> Res
 {
     for i in 0..s.slots {
         let here = place_in(s, i);
-        if marks[here] == 2 || marks[place_against(s, i)] == 0 {
+        if marks[here] == 2 || marks[place_of(-s.name(i))] == 0 {
             return Err(QuestionFault::new(StripQuestion::Pairs, number, i));
         }
         marks[here] = 2;

@@ -8,32 +8,25 @@ ghost use Rattle.file.specs.Views.{told};
 ghost use Rattle.strip_questions.specs.Repeats.{together, lower, Listed, Lowest};
 
 use crate::plain;
+use chart::point::Point;
 use file::fault::QuestionFault;
 use file::questions::{StripFault, StripQuestion};
 use file::view::Strip;
 use turning::limits::SLOTS;
 
-// A vertex of a strip by its point and its place, and so ordered: equal points by their places. Its coordinates stand apart, since a point has no order.
-#[derive(Clone, Copy, PartialEq, Eq, PartialOrd, Ord)]
+// A vertex of a strip by its point and its place, and so ordered: equal points by their places.
+#[derive(Clone, Copy, PartialEq, Eq, PartialOrd, Ord, Default)]
 struct Vertex {
-    x: i32,
-    y: i32,
+    point: Point,
     place: u16,
 }
-
-// No vertex: what the memory holds before it is filled.
-const BLANK: Vertex = Vertex {
-    x: 0,
-    y: 0,
-    place: 0,
-};
 
 impl Vertex {
     // Have the two vertices one point?
     fn is_with(self, other: Vertex) -> bool
         ensures { result ≡ together self other }
     {
-        self.x == other.x && self.y == other.y
+        self.point == other.point
     }
 }
 
@@ -45,11 +38,7 @@ fn list_vertices(s: Strip<'_>, vertices: &mut [Vertex])
     for (k, vertex) in vertices.iter_mut().enumerate() {
         let place = k as u16;
         let point = s.point(place);
-        *vertex = Vertex {
-            x: point.x,
-            y: point.y,
-            place,
-        };
+        *vertex = Vertex { point, place };
     }
 }
 
@@ -64,14 +53,14 @@ fn lower_of(found: Option<u16>, place: u16) -> u16
 }
 
 // The lowest place of a vertex that has the point of its left neighbour.
-// By index: of windows(2) with filter, map and min, the goal `returns` stayed open, that the run of `min` tells `Lowest`.
 fn lowest_repeat(sorted: &[Vertex]) -> Option<u16>
     ensures { Lowest sorted.now (length sorted.now) result }
 {
+    let (_, later) = sorted.split_first()?;
     let mut lowest = None;
-    for i in 1..sorted.len() {
-        if sorted[i - 1].is_with(sorted[i]) {
-            lowest = Some(lower_of(lowest, sorted[i].place));
+    for (left, vertex) in sorted.iter().zip(later) {
+        if left.is_with(*vertex) {
+            lowest = Some(lower_of(lowest, vertex.place));
         }
     }
     lowest
@@ -92,7 +81,7 @@ pub fn points_new(s: Strip<'_>, number: u16) -> Result<(), StripFault>
     requires { s.vertices ≤ max_slots }
     ensures { result ≡ answered (q12 (told s.entry) number) tt }
 {
-    let mut memory = [BLANK; SLOTS];
+    let mut memory = [Vertex::default(); SLOTS];
     match first_repeat(s, &mut memory[..s.vertices as usize]) {
         None => Ok(()),
         Some(place) => Err(QuestionFault::new(StripQuestion::NewPoints, number, place)),

@@ -1,9 +1,8 @@
 -- What is gathered of a strip, and how many bytes it takes. Assumes nothing.
-use Rattle.std.proofs.Common.{◌≡◌, ℕ, ◌+◌, ◌*◌, ◌≤◌, min, List, [], ◌∷◌, ◌++◌, map, length, take, ℤ, sym, refl, ap, ◌∙◌, ap₂, mul-suc, arith}
+use Rattle.std.proofs.Common.{◌≡◌, ℕ, ◌+◌, ◌*◌, List, [], ◌∷◌, ◌++◌, map, length, ℤ, sym, refl, ap, ◌∙◌, ap₂, mul-suc, arith}
 use Rattle.std.specs.List.{flat_map as joined}
-use Rattle.std.proofs.lemmas.List.{length-append, length-take, length-take-le, length-map}
+use Rattle.std.proofs.lemmas.List.{length-append, length-map}
 use Rattle.chart.specs.Linework.{Linework}
-use Rattle.file.specs.declared.view.Sizes.{Sizes}
 use Rattle.writing.specs.Written.{u16_bytes, i16_bytes, i32_bytes, names_in, follower_slot, start_of, points_in, strip_bytes}
 use Rattle.writing.specs.Gathers.{size_of, Gathered}
 use Rattle.writing.proofs.CodeParts.{joined_map}

@@ -4,7 +4,7 @@ ghost use Rattle.std.specs.List.{flat_map};
 ghost use Rattle.turning.specs.Limits.{max_edge, line_for};
 ghost use Rattle.flat.specs.Orbits.{◌∈◌, Distinct};
 ghost use Rattle.chart.specs.Linework.{lines_of};
-ghost use Rattle.search.specs.Marks.{Within, place as name_place};
+ghost use Rattle.search.specs.Marks.{Within};
 ghost use Rattle.writing.specs.Written.{u16_bytes, i16_bytes, i32_bytes, names_in, follower_slot, start_of, points_in, strip_bytes};
 ghost use Rattle.writing.specs.Gathers.{Slotted};
 
@@ -13,9 +13,10 @@ use crate::words::write_each;
 use chart::Chart;
 use chart::point::Point;
 use file::view::NONE;
+use search::marks::place_of;
 use strips::borders::Borders;
 use turning::Turning;
-use turning::limits::{MARK_BYTES, MAX_NAME};
+use turning::limits::MARK_BYTES;
 
 const ORIGIN: Point = Point { x: 0, y: 0 };
 
@@ -29,14 +30,6 @@ fn start_of<C: Chart>(chart: &C, h: i16) -> Point
     chart.point(h).unwrap_or(ORIGIN)
 }
 
-// Where the slot of a name is noted.
-fn place(h: i16) -> usize
-    requires { Within max_edge h }
-    ensures { result ≡ name_place max_edge h }
-{
-    (h + MAX_NAME) as usize
-}
-
 // Notes for each name where in the list it stands.
 fn note_slots(names: &[i16], slots: &mut Slots)
     requires within { (h : ℤ) → h ∈ names.now → Within max_edge h }
@@ -45,7 +38,7 @@ fn note_slots(names: &[i16], slots: &mut Slots)
     ensures { Slotted max_edge names.now slots.new }
 {
     for (k, h) in names.iter().enumerate() {
-        slots[place(*h)] = k as u16;
+        slots[place_of(*h)] = k as u16;
     }
 }
 
@@ -59,7 +52,7 @@ fn follower_slot<C: Chart>(chart: &C, borders: &Borders, strip: u16, h: i16, slo
     if !starts_in(chart, borders, strip, h) {
         return NONE;
     }
-    slots[place(chart.follower(h))]
+    slots[place_of(chart.follower(h))]
 }
 
 // Writes the names, two bytes each.
@@ -67,11 +60,14 @@ fn write_names(part: &mut [u8], names: &[i16])
     requires { length part.old ≡ 2 * length names.now }
     ensures { part.new ≡ flat_map i16_bytes names.now }
 {
-    write_each(part, names, 2, |h: i16|
-        ensures { result ≡ i16_bytes h }
-    {
-        h.to_le_bytes()
-    });
+    write_each(
+        part,
+        names,
+        2,
+        |h: i16|
+            ensures { result ≡ i16_bytes h }
+        { h.to_le_bytes() },
+    );
 }
 
 // Writes the slot that follows each name's, two bytes each.
@@ -88,13 +84,16 @@ fn write_followers<C: Chart>(
     requires slots { Slotted max_edge names.now slots.now }
     ensures { part.new ≡ flat_map (λ h. u16_bytes (follower_slot max_edge borders.now.items (lines_of C.Turning.turn C.Chart.points chart.now) strip h)) names.now }
 {
-    write_each(part, names, 2, |h: i16|
-        requires slotted { Slotted max_edge (names_in max_edge borders.now.items (lines_of C.Turning.turn C.Chart.points chart.now) strip) slots.now }
-        requires held { (C.Turning.turn chart.now).held h ≡ true }
-        ensures { result ≡ u16_bytes (follower_slot max_edge borders.entry.now.items (lines_of C.Turning.turn C.Chart.points chart.entry.now) strip h) }
-    {
-        follower_slot(chart, borders, strip, h, slots).to_le_bytes()
-    });
+    write_each(
+        part,
+        names,
+        2,
+        |h: i16|
+            requires slotted { Slotted max_edge (names_in max_edge borders.now.items (lines_of C.Turning.turn C.Chart.points chart.now) strip) slots.now }
+            requires held { (C.Turning.turn chart.now).held h ≡ true }
+            ensures { result ≡ u16_bytes (follower_slot max_edge borders.entry.now.items (lines_of C.Turning.turn C.Chart.points chart.entry.now) strip h) }
+        { follower_slot(chart, borders, strip, h, slots).to_le_bytes() },
+    );
 }
 
 // Writes the arrays of a strip with these names, and with a vertex where each of the first ones starts.
@@ -127,16 +126,22 @@ fn write_arrays<C: Chart>(
         names,
         &slots,
     );
-    write_each(&mut part[xs..ys], firsts, 4, |h: i16|
-        ensures { result ≡ i32_bytes (start_of (lines_of C.Turning.turn C.Chart.points chart.entry.now) h).x }
-    {
-        start_of(chart, h).x.to_le_bytes()
-    });
-    write_each(&mut part[ys..end], firsts, 4, |h: i16|
-        ensures { result ≡ i32_bytes (start_of (lines_of C.Turning.turn C.Chart.points chart.entry.now) h).y }
-    {
-        start_of(chart, h).y.to_le_bytes()
-    });
+    write_each(
+        &mut part[xs..ys],
+        firsts,
+        4,
+        |h: i16|
+            ensures { result ≡ i32_bytes (start_of (lines_of C.Turning.turn C.Chart.points chart.entry.now) h).x }
+        { start_of(chart, h).x.to_le_bytes() },
+    );
+    write_each(
+        &mut part[ys..end],
+        firsts,
+        4,
+        |h: i16|
+            ensures { result ≡ i32_bytes (start_of (lines_of C.Turning.turn C.Chart.points chart.entry.now) h).y }
+        { start_of(chart, h).y.to_le_bytes() },
+    );
 }
 
 // Writes the arrays of one strip.

@@ -21,7 +21,7 @@ use turning::limits::{LINE_NAMES, MARK_BYTES, MAX_EDGE};
 // Names of a strip, at most all that there are. They lie in the value itself: nothing is allocated.
 pub(crate) type Names = ArrayVec<i16, LINE_NAMES>;
 
-// Does the edge run through the strip?
+// Does the edge run through the strip? Its strips are named as where its slots are counted: one function for both would answer two strips or none, which each would take apart again.
 fn runs_through<C: Chart>(chart: &C, borders: &Borders, strip: u16, edge: u16) -> bool
     ensures { result ≡ runs_through borders.now.items (lines_of C.Turning.turn C.Chart.points chart.now) strip (pos edge) }
 {
@@ -92,14 +92,7 @@ pub(crate) fn gather<C: Chart>(
 {
     let mut marks = [0; MARK_BYTES];
     collect_names(chart, borders, strip, names);
-    collect_firsts(
-        chart,
-        borders,
-        strip,
-        names.as_slice(),
-        &mut marks,
-        firsts,
-    );
+    collect_firsts(chart, borders, strip, names.as_slice(), &mut marks, firsts);
 }
 
 // How many vertices and slots the strip has.

@@ -1,7 +1,10 @@
-use Rattle.std.proofs.Common.{◌≡◌, true, false, pos, sym, ap, ◌∙◌}
+use Rattle.std.proofs.Common.{◌≡◌, Err, true, false, pos, sym, ap, ◌∙◌}
 use Rattle.turning.specs.Limits.{max_edge, marks_for, line_for}
 use Rattle.search.specs.Buffers.{enough}
 use Rattle.search.proofs.Buffers.{enough_both, line_short, given_zero, given_same, given_whole}
+use Rattle.file.specs.declared.fault.Layer.TheVariants.{Call}
+use Rattle.file.specs.Faults.{told_fault}
+use Rattle.file.specs.Numbers.{call_number}
 use Rattle.file.specs.Places.{answered}
 use Rattle.judge.specs.Judging.{verdict_by}
 use Rattle.judge.proofs.judge.Goals as goal
@@ -12,7 +15,7 @@ returns-in_default-first_chunk_mut c =
     let l = c.args.line.now in
     let e : enough max_edge m l ≡ false = line_short max_edge m l c.in_default-first_chunk_mut.ensures.cases in
     record {
-      answer = sym (ap (λ b. answered (verdict_by b c.args.bytes.now) tt) e);
+      answer = ap Err (c.from-short.ensures ∙ ap (told_fault Call call_number) c.new.ensures) ∙ sym (ap (λ b. answered (verdict_by b c.args.bytes.now) tt) e);
       zero = given_same (enough max_edge m l) (marks_for max_edge) 0 m e c.in-Some.marks.now c.in-Some.ensures.cases.same;
       empty = given_whole (enough max_edge m l) (line_for max_edge) (pos 0) l e;
     }

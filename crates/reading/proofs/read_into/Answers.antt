@@ -2,7 +2,10 @@ use Rattle.std.proofs.Common.{◌≡◌, true, false, leb, length, Err, sym, ref
 use Rattle.std.proofs.lemmas.Result.{err_from_is_err_and}
 use Rattle.std.proofs.lemmas.Bool.{leb-true}
 use Rattle.turning.specs.Limits.{max_edge, slots}
+use Rattle.file.specs.declared.fault.Layer.TheVariants.{Flat}
+use Rattle.file.specs.Faults.{told_fault}
 use Rattle.file.specs.Lines.{flat}
+use Rattle.file.specs.Numbers.{flat_number}
 use Rattle.file.specs.Verdict.{told_lines}
 use Rattle.reading.specs.Reading.{Read}
 use Rattle.reading.proofs.Deciding.{answer_shape, answer_flat, answer_yes, ready_long, accepted, refused}
@@ -39,7 +42,7 @@ returns-then-not-is_flat c =
     let yes = accepted c.args.marks.now c.args.line.now b (omega arith) (omega arith) c.in_ok-judge.ensures.answer in
     let f : flat max_edge (told_lines b).turn ≡ false = ap (λ l. flat max_edge l.turn) (sym c.lay_out.ensures.lines) ∙ sym c.is_flat.ensures ∙ c.if-not-is_flat.true in
     record {
-      answer = answer_flat (leb slots (length rs)) long b yes f;
+      answer = ap Err (c.from-then-not-is_flat.ensures ∙ ap (told_fault Flat flat_number) c.new-then-not-is_flat.ensures) ∙ answer_flat (leb slots (length rs)) long b yes f;
       read = (c.clear.ensures.uncut, c.clear.ensures.empty);
       length = c.clear.ensures.length ∙ c.lay_out.ensures.length;
     }

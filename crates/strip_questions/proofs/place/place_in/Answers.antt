@@ -1,16 +1,11 @@
-use Rattle.std.proofs.Common.{◌≡◌, true, sym, ap, ◌∙◌, subst, w16, SFits, rules}
-use Rattle.std.proofs.lemmas.Int.{to_z-of_z}
+use Rattle.std.proofs.Common.{sym, ap, ◌∙◌, subst}
 use Rattle.turning.specs.Limits.{max_edge}
-use Rattle.file.specs.Questions.{named}
-use Rattle.search.specs.Marks.{place as mark_at}
+use Rattle.search.specs.Marks.{Within, place as mark_at}
+use Rattle.strip_questions.proofs.Marks.{named_within, name_is}
 use Rattle.strip_questions.proofs.place.place_in.Goals as goal
 
 pub place_of-requires : goal.place_of-requires
-place_of-requires c =
-    let f : SFits w16 c.name.result = search rules in
-    subst (λ z. named max_edge z ≡ true) (sym (to_z-of_z w16 c.name.result f ∙ c.name.ensures)) c.requires.named
+place_of-requires c = subst (Within max_edge) (sym (name_is _ _ c.name.ensures c.requires.named)) (named_within _ c.requires.named)
 
 pub returns : goal.returns
-returns c =
-    let f : SFits w16 c.name.result = search rules in
-    record { value = c.place_of.ensures.value ∙ ap (mark_at max_edge) (to_z-of_z w16 c.name.result f ∙ c.name.ensures); within = c.place_of.ensures.within }
+returns c = record { value = c.place_of.ensures.value ∙ ap (mark_at max_edge) (name_is _ _ c.name.ensures c.requires.named); within = c.place_of.ensures.within }

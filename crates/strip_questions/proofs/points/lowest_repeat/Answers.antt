@@ -1,24 +1,45 @@
-use Rattle.std.proofs.Common.{◌≡◌, ◌+◌, min, length, Some, sym, ap, ◌∙◌, subst, arith}
-use Rattle.strip_questions.specs.Repeats.{Lowest}
-use Rattle.strip_questions.proofs.Repeats.{lowest_passed, lowest_found}
+use Rattle.std.proofs.Common.{◌≡◌, suc, ◌∷◌, length, drop, get_or, Some, sym, ap, ◌∙◌, subst, ⊎_elim, add-one, arith, rules}
+use Rattle.strip_questions.specs.Repeats.{blank, lower, Lowest}
+use Rattle.strip_questions.proofs.Repeats.{on_pair, some_left, none_left, lowest_passed, lowest_found}
 use Rattle.strip_questions.proofs.points.lowest_repeat.Goals as goal
-use Rattle.strip_questions.proofs.points.lowest_repeat.Goals.{then-is_with, else-is_with}
 
-pub loop-i-preserved : goal.loop-i-preserved
-loop-i-preserved c =
+pub loop-left-init : goal.loop-left-init
+loop-left-init c =
     let xs = c.args.sorted.now in
-    let i = c.loop-i.i in
-    let here : min i (length xs) ≡ i = omega (arith, c.loop-i-test.true) in
-    let next : i + 1 ≡ min (i + 1) (length xs) = omega (arith, c.loop-i-test.true) in
-    let before = subst (λ n. Lowest xs n c.loop-i.lowest) here c.loop-i.invariant in
-    subst (λ n. Lowest xs n c.if-is_with.lowest) next (elim c.if-is_with.branch [
-      | then-is_with w ↦
-          subst (Lowest xs (i + 1)) (sym (w.lowest-is ∙ ap Some w.lower_of.ensures))
-          (lowest_found xs i c.loop-i.lowest (omega (arith, c.loop-i.auto.i)) (sym c.is_with.ensures ∙ w.if-is_with.true) before)
-      | else-is_with w ↦ subst (Lowest xs (i + 1)) (sym w.lowest-is) (lowest_passed xs i c.loop-i.lowest (sym c.is_with.ensures ∙ w.if-is_with.false) before)
-    ])
+    let first : c.into_iter-left-iterator.result.a.rest.now ≡ xs = search rules in
+    let later : c.into_iter-left-iterator.result.b.rest.now ≡ c.in_ok-later.later.now = search rules in
+    let cut : xs ≡ _ ∷ c.in_ok-later.later.now = c.in_ok-later.ensures.cases.0 in
+    (0, omega (arith, ap length cut), first, later ∙ ap (drop 1) (sym cut), λ i p l. absurd (omega arith))
+
+pub loop-left-preserved-then-is_with : goal.loop-left-preserved-then-is_with
+loop-left-preserved-then-is_with c =
+    let xs = c.args.sorted.now in
+    let i = c.loop-left.invariant in
+    let n = i.0 in
+    let s = c.in-Some.ensures.steps in
+    let p = on_pair xs n _ _ _ _ (sym s.0 ∙ i.2) (sym s.1 ∙ i.3) in (
+      suc n,
+      p.0,
+      p.1,
+      p.2,
+      subst (λ k. Lowest xs (suc (suc n)) (Some k)) (ap (λ w. lower c.loop-left.lowest w.place) (sym p.4) ∙ sym c.lower_of.ensures)
+          (subst (λ m. Lowest xs m (Some (lower c.loop-left.lowest (get_or xs (suc n) blank).place))) (add-one (suc n)) (lowest_found xs (suc n) c.loop-left.lowest (omega arith) (sym p.3 ∙ sym c.is_with.ensures ∙ c.if-is_with.true) i.4)),
+    )
+
+pub loop-left-preserved : goal.loop-left-preserved
+loop-left-preserved c =
+    let xs = c.args.sorted.now in
+    let i = c.loop-left.invariant in
+    let n = i.0 in
+    let s = c.in-Some.ensures.steps in
+    let p = on_pair xs n _ _ _ _ (sym s.0 ∙ i.2) (sym s.1 ∙ i.3) in
+    (suc n, p.0, p.1, p.2, subst (λ m. Lowest xs m c.loop-left.lowest) (add-one (suc n)) (lowest_passed xs (suc n) c.loop-left.lowest (sym p.3 ∙ sym c.is_with.ensures ∙ c.if-is_with.false) i.4))
 
 pub returns : goal.returns
 returns c =
-    let all : min c.loop-i.i (length c.args.sorted.now) ≡ length c.args.sorted.now = omega (arith, c.loop-i-test.false) in
-    subst (λ n. Lowest c.args.sorted.now n c.loop-i.lowest) all c.loop-i.invariant
+    let xs = c.args.sorted.now in
+    let i = c.loop-left.invariant in
+    ⊎_elim
+    (λ f. absurd (some_left xs i.0 _ i.1 i.2 f.1.0))
+    (λ f. subst (λ m. Lowest xs m c.loop-left.lowest) (none_left xs i.0 _ i.1 i.3 f.1.0) i.4)
+    c.in-None.ensures.steps

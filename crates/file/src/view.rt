@@ -8,7 +8,7 @@ use chart::point::Point;
 pub const NONE: u16 = 65535;
 
 // How many vertices and slots a strip has.
-#[derive(Clone, Copy)]
+#[derive(Clone, Copy, Default)]
 pub struct Sizes {
     pub vertices: u16,
     pub slots: u16,

@@ -1,31 +1,24 @@
 -- Entries that tell line work which is lawful and placed. Assumes nothing.
-use Rattle.std.proofs.Common.{◌≡◌, true, false, List, get_or, ℤ}
-use mathlib.Core.HLevel.{hedberg}
+use Rattle.std.proofs.Common.{◌≡◌, true, false, List, get_or, ℤ, None, Option}
 use mathlib.Core.Logic.{∥∥₁_elim}
-use native.Mathlib.Decide.{ℕ_discrete}
 use Rattle.std.proofs.lemmas.Bool.{cond-true, cond-false}
 use Rattle.turning.specs.Limits.{max_edge}
-use Rattle.turning.specs.Props.{lawful_prop}
+use Rattle.chart.specs.Linework.{Placed}
 use Rattle.chart.proofs.Props.{placed_prop}
+use Rattle.laws.specs.Keeps.{Sound}
 use Rattle.search.specs.Marks.{place as mark_at}
 use Rattle.file.specs.Questions.{named}
 use Rattle.reading.specs.declared.entry.Entry.{Entry}
-use Rattle.reading.specs.Entries.{absent, entry_of, lines_by, Telling}
+use Rattle.reading.specs.Entries.{entry_of, lines_by}
 
-telling_prop : (es : List Entry) → IsProp (Telling es)
-telling_prop es p q = λ i. record {
-  long = hedberg ℕ_discrete _ _ p.long q.long i;
-  sound = (lawful_prop max_edge (lines_by es).turn p.sound.0 q.sound.0 i, placed_prop max_edge (lines_by es).turn (lines_by es).points p.sound.1 q.sound.1 i);
-}
-
-pub telling_out : (es : List Entry) → ∥ Telling es ∥₁ → Telling es
-telling_out es p = ∥∥₁_elim p (telling_prop es) (λ t. t)
+pub placed_of : (es : List (Option Entry)) → ∥ Sound max_edge (lines_by es) ∥₁ → Placed max_edge (lines_by es).turn (lines_by es).points
+placed_of es p = ∥∥₁_elim p (placed_prop max_edge (lines_by es).turn (lines_by es).points) (λ s. s.1)
 
 -- the entry of a name stands at its place
-pub entry_at : (es : List Entry) (z : ℤ) → named max_edge z ≡ true → entry_of es z ≡ get_or es (mark_at max_edge z) absent
+pub entry_at : (es : List (Option Entry)) (z : ℤ) → named max_edge z ≡ true → entry_of es z ≡ get_or es (mark_at max_edge z) None
 unfolding entry_of
 entry_at es z e = cond-true (named max_edge z) _ _ e
 
-pub entry_off : (es : List Entry) (z : ℤ) → named max_edge z ≡ false → entry_of es z ≡ absent
+pub entry_off : (es : List (Option Entry)) (z : ℤ) → named max_edge z ≡ false → entry_of es z ≡ None
 unfolding entry_of
 entry_off es z e = cond-false (named max_edge z) _ _ e

@@ -12,7 +12,8 @@ ghost use Rattle.file.specs.Lines.{flat};
 ghost use Rattle.file.specs.Places.{answered};
 ghost use Rattle.reading.specs.Reading.{sheet_verdict, read_verdict, Read};
 
-use file::fault::{Fault, Layer};
+use file::fault::{Fault, QuestionFault};
+use file::questions::{CallQuestion, FlatQuestion};
 use judge::judge;
 use laying::lay_out;
 use questions::counting::counts;
@@ -26,10 +27,10 @@ mod entry;
 mod laying;
 
 // Question 17: vertices + loops = edges + 2 × pieces.
-fn is_flat(sheet: &Sheet, marks: &mut [u8], line: &mut [i16]) -> bool
-    requires { (length marks.old ≡ marks_for max_edge) × (length line.old ≡ line_for max_edge) }
+fn is_flat(sheet: &Sheet, marks: &mut Marks, line: &mut Line) -> bool
     ensures { result ≡ flat max_edge (turn_of (seen sheet.now.rows.at.now)) }
 {
+    // Only short buffers are refused, and these are long enough.
     let Ok(count) = counts(sheet, marks, line) else {
         return false;
     };
@@ -40,33 +41,23 @@ fn is_flat(sheet: &Sheet, marks: &mut [u8], line: &mut [i16]) -> bool
 fn read_into(
     sheet: &mut Sheet,
     bytes: &[u8],
-    marks: &mut [u8],
-    line: &mut [i16],
+    marks: &mut Marks,
+    line: &mut Line,
 ) -> Result<(), Fault>
-    requires buffers { (length marks.old ≡ marks_for max_edge) × (length line.old ≡ line_for max_edge) }
-    requires empty { (sheet.old.borders.items ≡ []) × (lines_in (seen sheet.old.rows.at.now) ≡ no_lines) }
+    requires uncut { sheet.old.borders.items ≡ [] }
+    requires empty { lines_in (seen sheet.old.rows.at.now) ≡ no_lines }
     ensures answer { result ≡ answered (sheet_verdict (nat_le slots (length sheet.old.rows.at.now)) bytes.now) tt }
     ensures read { Read result bytes.now sheet.new.borders.items sheet.new.rows.at.now }
     ensures length { length sheet.new.rows.at.now ≡ length sheet.old.rows.at.now }
 {
     if sheet.ready().is_err() {
-        return Err(Fault {
-            layer: Layer::Call,
-            number: 18,
-            strip: 0,
-            place: 0,
-        });
+        return Err(Fault::from(QuestionFault::new(CallQuestion::Memory, 0, 0)));
     }
     judge(bytes, marks, line)?;
     lay_out(sheet, bytes, line);
     if !is_flat(sheet, marks, line) {
         sheet.clear();
-        return Err(Fault {
-            layer: Layer::Flat,
-            number: 17,
-            strip: 0,
-            place: 0,
-        });
+        return Err(Fault::from(QuestionFault::new(FlatQuestion::Flat, 0, 0)));
     }
     Ok(())
 }
@@ -105,12 +96,7 @@ pub fn read(
     ensures blank { line.new ≡ given_back (enough max_edge marks.old line.old) (line_for max_edge) (pos 0) line.old }
 {
     sheet.clear();
-    let short = Fault {
-        layer: Layer::Call,
-        number: 20,
-        strip: 0,
-        place: 0,
-    };
+    let short = Fault::from(QuestionFault::new(CallQuestion::Buffers, 0, 0));
     let Some(marks) = marks.first_chunk_mut::<MARK_BYTES>() else {
         return Err(short);
     };

@@ -1,6 +1,6 @@
 -- The vertices of a strip, name by name: a name is the first of its vertex where its round is not yet marked. Assumes nothing.
-use Rattle.std.proofs.Common.{◌≡◌, ℕ, ◌+◌, ◌<◌, ◌≤◌, Bool, true, false, cond, ◌||◌, T, ◌⊎◌, List, [], ◌∷◌, ◌++◌, map, length, get_or, take, drop, set, ℤ, pos, Some, None, Option, sym, refl, ap, ◌∙◌, subst, ap₂, inl, inr, arith}
-use Rattle.std.proofs.lemmas.List.{take_more_set, append_assoc, append-nil, map_push, drop_more, drop_all}
+use Rattle.std.proofs.Common.{◌≡◌, ℕ, ◌+◌, ◌<◌, ◌≤◌, Bool, true, false, cond, ◌||◌, T, ◌⊎◌, List, [], ◌∷◌, ◌++◌, map, length, get_or, drop, ℤ, pos, Some, None, Option, sym, refl, ap, ◌∙◌, subst, ap₂, inl, inr, arith}
+use Rattle.std.proofs.lemmas.List.{append_assoc, length-append, append-nil, map_push, drop_more, drop_all}
 use Rattle.std.proofs.lemmas.Bool.{both_ways, and_parts, and_from, cond-true, cond-false}
 use Rattle.flat.specs.Orbits.{Reach, stay, walk, filter}
 use Rattle.flat.specs.Whole.{equal}
@@ -24,12 +24,12 @@ same_eq p q t =
     let both = and_parts (equal p.x q.x) (equal p.y q.y) (T_true _ t) in
     ap₂ (λ x y. record { x = x; y = y }) ((equal_is p.x q.x).0 (true_T _ both.0)) ((equal_is p.y q.y).0 (true_T _ both.1))
 
--- of the names below place k, the first of each vertex stands in the list, and their rounds are marked
-pub record Firsts (n : ℕ) (l : Linework) (bs : List ℤ) (i : ℕ) (names : List ℤ) (k : ℕ) (marks : List ℕ) (firsts : List ℤ) (count : ℕ) : Type 0 where
+-- of the names below place k, the first of each vertex is in the list, and their rounds are marked
+pub record Firsts (n : ℕ) (l : Linework) (bs : List ℤ) (i : ℕ) (names : List ℤ) (k : ℕ) (marks : List ℕ) (firsts : List ℤ) : Type 0 where
   pub before : List ℤ
-  pub started : map (start_of l) (take count firsts) ++ new_points l before (filter (starts_in bs l i) (drop k names)) ≡ new_points l [] (filter (starts_in bs l i) names)
+  pub started : map (start_of l) firsts ++ new_points l before (filter (starts_in bs l i) (drop k names)) ≡ new_points l [] (filter (starts_in bs l i) names)
   pub marks_tell : (z : ℤ) → l.turn.held z ≡ true → marked n marks z ≡ starts_at l before (start_of l z)
-  pub few : count ≤ k
+  pub few : length firsts ≤ k
 
 module _ (n : ℕ) (l : Linework) (law : Lawful n l.turn) (placed : Placed n l.turn l.points) where
   -- a held name starts at a point that is told
@@ -58,10 +58,10 @@ module _ (n : ℕ) (l : Linework) (law : Lawful n l.turn) (placed : Placed n l.t
       (round_walk n l.turn law h z held).0 (true_T _ (placed.together h z held other e))
 
   module _ (bs : List ℤ) (i : ℕ) (names : List ℤ) where
-    pub firsts_none : (marks : List ℕ) (firsts : List ℤ) → Clean marks → Firsts n l bs i names 0 marks firsts 0
-    firsts_none marks firsts clean = record { before = []; started = refl; marks_tell = λ z held. not_T_false _ (unmarked_clean n marks z clean); few = omega arith }
+    pub firsts_none : (marks : List ℕ) → Clean marks → Firsts n l bs i names 0 marks []
+    firsts_none marks clean = record { before = []; started = refl; marks_tell = λ z held. not_T_false _ (unmarked_clean n marks z clean); few = omega arith }
 
-    module _ (k : ℕ) (marks : List ℕ) (firsts : List ℤ) (count : ℕ) (below : k < length names) (f : Firsts n l bs i names k marks firsts count) where
+    module _ (k : ℕ) (marks : List ℕ) (firsts : List ℤ) (below : k < length names) (f : Firsts n l bs i names k marks firsts) where
       h : ℤ
       h = get_or names k (pos 0)
 
@@ -73,27 +73,27 @@ module _ (n : ℕ) (l : Linework) (law : Lawful n l.turn) (placed : Placed n l.t
       split b e = ap (filter (starts_in bs l i)) (drop_more names k (pos 0) below) ∙ ap (λ c. cond c (h ∷ rest) rest) e
 
       -- the name starts in another strip
-      pub firsts_past : starts_in bs l i (get_or names k (pos 0)) ≡ false → Firsts n l bs i names (k + 1) marks firsts count
+      pub firsts_past : starts_in bs l i (get_or names k (pos 0)) ≡ false → Firsts n l bs i names (k + 1) marks firsts
       unfolding h rest
       firsts_past e =
-          let few : count ≤ k = f.few in
+          let few : length firsts ≤ k = f.few in
           record {
             before = f.before;
-            started = ap (λ zs. map (start_of l) (take count firsts) ++ new_points l f.before zs) (sym (split false e)) ∙ f.started;
+            started = ap (λ zs. map (start_of l) firsts ++ new_points l f.before zs) (sym (split false e)) ∙ f.started;
             marks_tell = f.marks_tell;
             few = omega arith;
           }
 
       -- the vertex of the name is known
-      pub firsts_old : l.turn.held (get_or names k (pos 0)) ≡ true → starts_in bs l i (get_or names k (pos 0)) ≡ true → marked n marks (get_or names k (pos 0)) ≡ true → Firsts n l bs i names (k + 1) marks firsts count
+      pub firsts_old : l.turn.held (get_or names k (pos 0)) ≡ true → starts_in bs l i (get_or names k (pos 0)) ≡ true → marked n marks (get_or names k (pos 0)) ≡ true → Firsts n l bs i names (k + 1) marks firsts
       unfolding h rest
       firsts_old held e old =
-          let few : count ≤ k = f.few in
+          let few : length firsts ≤ k = f.few in
           let known : starts_at l f.before (start_of l h) ≡ true = sym (f.marks_tell h held) ∙ old in
           record {
             before = f.before;
             started =
-                ap (λ zs. map (start_of l) (take count firsts) ++ zs)
+                ap (λ zs. map (start_of l) firsts ++ zs)
                 (sym (ap (new_points l f.before) (split true e) ∙ cond-true (starts_at l f.before (start_of l h)) _ _ known))
                 ∙ f.started;
             marks_tell = f.marks_tell;
@@ -101,21 +101,21 @@ module _ (n : ℕ) (l : Linework) (law : Lawful n l.turn) (placed : Placed n l.t
           }
 
       -- the name is the first of its vertex: it is put into the list, and its round is marked
-      pub firsts_new : l.turn.held (get_or names k (pos 0)) ≡ true → starts_in bs l i (get_or names k (pos 0)) ≡ true → marked n marks (get_or names k (pos 0)) ≡ false → count < length firsts
-          → (marks' : List ℕ) → Spreads n l.turn (l.turn.follower ∷ []) (get_or names k (pos 0)) marks marks' → Firsts n l bs i names (k + 1) marks' (set firsts count (get_or names k (pos 0))) (count + 1)
+      pub firsts_new : l.turn.held (get_or names k (pos 0)) ≡ true → starts_in bs l i (get_or names k (pos 0)) ≡ true → marked n marks (get_or names k (pos 0)) ≡ false
+          → (marks' : List ℕ) → Spreads n l.turn (l.turn.follower ∷ []) (get_or names k (pos 0)) marks marks' → Firsts n l bs i names (k + 1) marks' (firsts ++ (get_or names k (pos 0) ∷ []))
       unfolding h rest
-      firsts_new held e new room marks' spread =
-          let few : count ≤ k = f.few in
+      firsts_new held e new marks' spread =
+          let few : length firsts ≤ k = f.few in
+          let long = length-append firsts (h ∷ []) in
           let unknown : starts_at l f.before (start_of l h) ≡ false = sym (f.marks_tell h held) ∙ new in
           let later : new_points l f.before (filter (starts_in bs l i) (drop k names)) ≡ start_of l h ∷ new_points l (h ∷ f.before) rest =
           ap (new_points l f.before) (split true e) ∙ cond-false (starts_at l f.before (start_of l h)) _ _ unknown in
           record {
             before = h ∷ f.before;
             started =
-                ap (λ zs. map (start_of l) zs ++ new_points l (h ∷ f.before) rest) (take_more_set firsts count h room)
-                ∙ ap (λ zs. zs ++ new_points l (h ∷ f.before) rest) (map_push (start_of l) (take count firsts) h)
-                ∙ append_assoc (map (start_of l) (take count firsts)) (start_of l h ∷ []) (new_points l (h ∷ f.before) rest)
-                ∙ ap (λ zs. map (start_of l) (take count firsts) ++ zs) (sym later)
+                ap (λ zs. zs ++ new_points l (h ∷ f.before) rest) (map_push (start_of l) firsts h)
+                ∙ append_assoc (map (start_of l) firsts) (start_of l h ∷ []) (new_points l (h ∷ f.before) rest)
+                ∙ ap (λ zs. map (start_of l) firsts ++ zs) (sym later)
                 ∙ f.started;
             marks_tell = λ z other. T_same _ _ (to z other) (from z other);
             few = omega arith;
@@ -135,10 +135,10 @@ module _ (n : ℕ) (l : Linework) (law : Lawful n l.turn) (placed : Placed n l.t
               go (inl p) = (spread z other).1 (inr (start_round h z held other p))
               go (inr p) = (spread z other).1 (inl (subst T (sym (f.marks_tell z other)) p))
 
-    pub firsts_all : (k : ℕ) (marks : List ℕ) (firsts : List ℤ) (count : ℕ) → length names ≤ k → Firsts n l bs i names k marks firsts count → names ≡ names_in n bs l i
-        → map (start_of l) (take count firsts) ≡ points_in n bs l i
+    pub firsts_all : (k : ℕ) (marks : List ℕ) (firsts : List ℤ) → length names ≤ k → Firsts n l bs i names k marks firsts → names ≡ names_in n bs l i
+        → map (start_of l) firsts ≡ points_in n bs l i
     unfolding points_in
-    firsts_all k marks firsts count past f is =
-        sym (append-nil (map (start_of l) (take count firsts)))
-        ∙ ap (λ zs. map (start_of l) (take count firsts) ++ new_points l f.before (filter (starts_in bs l i) zs)) (sym (drop_all k names past))
+    firsts_all k marks firsts past f is =
+        sym (append-nil (map (start_of l) firsts))
+        ∙ ap (λ zs. map (start_of l) firsts ++ new_points l f.before (filter (starts_in bs l i) zs)) (sym (drop_all k names past))
         ∙ f.started ∙ ap (λ zs. new_points l [] (filter (starts_in bs l i) zs)) is

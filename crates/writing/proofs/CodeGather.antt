@@ -1,11 +1,10 @@
 -- What is gathered of a strip, and how many bytes it takes. Assumes nothing.
-use Rattle.std.proofs.Common.{◌≡◌, ℕ, ◌+◌, ◌*◌, ◌≤◌, min, List, [], ◌∷◌, ◌++◌, map, length, take, ℤ, sym, refl, ap, ◌∙◌, ap₂, mul-suc, arith}
+use Rattle.std.proofs.Common.{◌≡◌, ℕ, ◌+◌, ◌*◌, List, [], ◌∷◌, ◌++◌, map, length, ℤ, sym, refl, ap, ◌∙◌, ap₂, mul-suc, arith}
 use Rattle.std.specs.List.{flat_map as joined}
-use Rattle.std.proofs.lemmas.List.{length-append, length-take, length-take-le, length-map}
+use Rattle.std.proofs.lemmas.List.{length-append, length-map}
 use Rattle.chart.specs.Linework.{Linework}
-use Rattle.file.specs.declared.view.Sizes.{Sizes}
 use Rattle.writing.specs.Written.{u16_bytes, i16_bytes, i32_bytes, names_in, follower_slot, start_of, points_in, strip_bytes}
-use Rattle.writing.specs.Gathers.{Gathered}
+use Rattle.writing.specs.Gathers.{size_of, Gathered}
 use Rattle.writing.proofs.CodeParts.{joined_map}
 
 -- elements of one width
@@ -17,37 +16,9 @@ length_joined enc w wide (x ∷ xs) =
     length-append (enc x) (joined enc xs) ∙ (let m = mul-suc w (length xs) in omega arith)
 
 module _ (n : ℕ) (bs : List ℤ) (l : Linework) (i : ℕ) where
-  pub gathered : (v s : ℕ) (names firsts : List ℤ) → take s names ≡ names_in n bs l i → s ≤ length names → map (start_of l) (take v firsts) ≡ points_in n bs l i → v ≤ length firsts
-      → Gathered n bs l i (record { vertices = v; slots = s }) names firsts
-  gathered v s names firsts named many started few = record {
-    sizes = ap₂ (λ a b. record { vertices = a; slots = b })
-        (sym (length-map (take v firsts) (start_of l) ∙ length-take-le v firsts few) ∙ ap length started)
-        (sym (length-take-le s names many) ∙ ap length named);
-    named = named;
-    started = started;
-  }
-
-  module _ (size : Sizes) (names firsts : List ℤ) (g : Gathered n bs l i size names firsts) where
-    pub slots_are : size.slots ≡ length (names_in n bs l i)
-    slots_are = ap (λ s. s.slots) g.sizes
-
-    pub vertices_are : size.vertices ≡ length (points_in n bs l i)
-    vertices_are = ap (λ s. s.vertices) g.sizes
-
-    pub slots_there : size.slots ≤ length names
-    slots_there =
-        let a = slots_are in
-        let b : length (take size.slots names) ≡ length (names_in n bs l i) = ap length g.named in
-        let m : length (take size.slots names) ≡ min size.slots (length names) = length-take size.slots names in
-        omega arith
-
-    pub vertices_there : size.vertices ≤ length firsts
-    vertices_there =
-        let a = vertices_are in
-        let b : length (map (start_of l) (take size.vertices firsts)) ≡ length (points_in n bs l i) = ap length g.started in
-        let d : length (map (start_of l) (take size.vertices firsts)) ≡ length (take size.vertices firsts) = length-map (take size.vertices firsts) (start_of l) in
-        let m : length (take size.vertices firsts) ≡ min size.vertices (length firsts) = length-take size.vertices firsts in
-        omega arith
+  -- the lists are as long as the sizes tell
+  pub sizes_are : (names firsts : List ℤ) → Gathered n bs l i names firsts → record { vertices = length firsts; slots = length names } ≡ size_of n bs l i
+  sizes_are names firsts g = ap₂ (λ v s. record { vertices = v; slots = s }) (sym (length-map firsts (start_of l)) ∙ ap length g.started) (ap length g.named)
 
   -- four bytes for each slot, eight for each vertex
   pub strip_long : length (strip_bytes n bs l i) ≡ 4 * length (names_in n bs l i) + 8 * length (points_in n bs l i)

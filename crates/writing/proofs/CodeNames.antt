@@ -1,28 +1,19 @@
 -- The names of a strip, edge by edge, and which of them follow one another. Assumes nothing.
-use Rattle.std.proofs.Common.{◌≡◌, ℕ, zero, suc, ◌+◌, ◌-◌, ◌*◌, ◌<◌, ◌≤◌, Bool, true, false, cond, ◌&&◌, leb, List, [], ◌∷◌, ◌++◌, length, take, set, ℤ, pos, negsuc, neg_ℤ, sym, refl, ap, ◌∙◌, arith}
-use Rattle.std.proofs.lemmas.List.{take_more_set, append_assoc, append-nil, length-set}
-use Rattle.std.proofs.lemmas.Bool.{both_ways, and_parts, and_from, eqb-true, le-leb}
+use Rattle.std.proofs.Common.{◌≡◌, ℕ, zero, suc, ◌+◌, ◌-◌, ◌*◌, ◌≤◌, Bool, true, false, cond, ◌&&◌, leb, List, [], ◌∷◌, ◌++◌, length, ℤ, pos, negsuc, neg_ℤ, sym, refl, ap, ◌∙◌, arith}
+use Rattle.std.proofs.lemmas.List.{append_assoc, append-nil, length-append}
+use Rattle.std.proofs.lemmas.Bool.{both_ways, and_parts, eqb-true}
 use Rattle.flat.specs.Orbits.{◌∈◌, filter}
 use Rattle.flat.proofs.Basics.{T_true}
 use Rattle.flat.proofs.Trails.{filter_is}
 use Rattle.turning.specs.Turn.{Lawful}
 use Rattle.turning.specs.Counts.{names}
-use Rattle.turning.proofs.Listed.{in_names, held_named, true_T}
 use Rattle.chart.specs.Linework.{Linework, Placed}
 use Rattle.search.specs.Marks.{Within}
 use Rattle.search.proofs.Marking.{held_within}
 use Rattle.strips.specs.Borders.{strip_of, x_of, home_strip, first_strip, last_strip, runs_through}
-use Rattle.strips.proofs.Gains.{held_on}
 use Rattle.writing.specs.Written.{names_in, starts_in}
-
-pub filter_append : {A : Type 0} (p : A → Bool) (xs ys : List A) → filter p (xs ++ ys) ≡ filter p xs ++ filter p ys
-filter_append p [] ys = refl
-filter_append p (x ∷ xs) ys = go (p x) (filter_append p xs ys)
-  where
-    go : (b : Bool) → filter p (xs ++ ys) ≡ filter p xs ++ filter p ys
-        → cond b (x ∷ filter p (xs ++ ys)) (filter p (xs ++ ys)) ≡ cond b (x ∷ filter p xs) (filter p xs) ++ filter p ys
-    go true rec = ap (λ zs. x ∷ zs) rec
-    go false rec = rec
+use Rattle.writing.proofs.Listing.{filter_join}
+use Rattle.writing.proofs.Slotting.{in_strip, runs_home}
 
 -- two that pass or fail together
 filter_two : {A : Type 0} (p : A → Bool) (x y : A) → p y ≡ p x → filter p (x ∷ (y ∷ [])) ≡ cond (p x) (x ∷ (y ∷ [])) []
@@ -32,14 +23,14 @@ filter_two p x y same = ap (λ b. cond (p x) (x ∷ cond b (y ∷ []) []) (cond 
     go true = refl
     go false = refl
 
--- the names of the edges below e stand first in the list
-pub record Collected (bs : List ℤ) (l : Linework) (i e : ℕ) (list : List ℤ) (count : ℕ) : Type 0 where
-  pub named : take count list ≡ names_in (e - 1) bs l i
-  pub few : count + 2 ≤ 2 * e
+-- the names of the edges below e are in the list
+pub record Collected (bs : List ℤ) (l : Linework) (i e : ℕ) (list : List ℤ) : Type 0 where
+  pub named : list ≡ names_in (e - 1) bs l i
+  pub few : length list + 2 ≤ 2 * e
 
-pub collected_none : (bs : List ℤ) (l : Linework) (i : ℕ) (list : List ℤ) → Collected bs l i 1 list 0
+pub collected_none : (bs : List ℤ) (l : Linework) (i : ℕ) (list : List ℤ) → list ≡ [] → Collected bs l i 1 list
 unfolding names_in names
-collected_none bs l i list = record { named = refl; few = omega arith }
+collected_none bs l i list none = let e = ap length none in record { named = none; few = omega arith }
 
 module _ (n : ℕ) (bs : List ℤ) (l : Linework) (law : Lawful n l.turn) (i : ℕ) where
   held_both : (j : ℕ) → l.turn.held (negsuc j) ≡ l.turn.held (pos (suc j))
@@ -57,7 +48,7 @@ module _ (n : ℕ) (bs : List ℤ) (l : Linework) (law : Lawful n l.turn) (i : �
   names_more : (j : ℕ) → names_in (suc j) bs l i ≡ names_in j bs l i ++ cond (runs_through bs l i (pos (suc j))) (pos (suc j) ∷ (negsuc j ∷ [])) []
   unfolding names_in names
   names_more j =
-      filter_append (runs_through bs l i) (names j) (pos (suc j) ∷ (negsuc j ∷ []))
+      filter_join (runs_through bs l i) (names j) (pos (suc j) ∷ (negsuc j ∷ []))
       ∙ ap (λ zs. filter (runs_through bs l i) (names j) ++ zs) (filter_two (runs_through bs l i) (pos (suc j)) (negsuc j) (runs_both j))
 
   next_names : (e : ℕ) → 1 ≤ e → names_in ((e + 1) - 1) bs l i ≡ names_in (e - 1) bs l i ++ cond (runs_through bs l i (pos e)) (pos e ∷ (neg_ℤ (pos e) ∷ [])) []
@@ -68,28 +59,24 @@ module _ (n : ℕ) (bs : List ℤ) (l : Linework) (law : Lawful n l.turn) (i : �
       ap (λ k. names_in k bs l i) a ∙ names_more j ∙ ap (λ k. names_in k bs l i ++ cond (runs_through bs l i (pos (suc j))) (pos (suc j) ∷ (negsuc j ∷ [])) []) b
 
   -- the edge e runs through the strip, and both its names are put into the list
-  pub collected_both : (e : ℕ) (list : List ℤ) (count : ℕ) → 1 ≤ e → e ≤ n → length list ≡ 2 * n → Collected bs l i e list count → runs_through bs l i (pos e) ≡ true
-      → Collected bs l i (e + 1) (set (set list count (pos e)) (count + 1) (neg_ℤ (pos e))) (count + 2)
-  collected_both e list count one e-max long c runs =
-      let few : count + 2 ≤ 2 * e = c.few in
-      let here : count < length list = omega arith in
-      let there : count + 1 < length (set list count (pos e)) = simp length-set (omega arith) in
-      let two : count + 2 ≡ (count + 1) + 1 = omega arith in
+  pub collected_both : (e : ℕ) (list : List ℤ) → 1 ≤ e → Collected bs l i e list → runs_through bs l i (pos e) ≡ true
+      → Collected bs l i (e + 1) ((list ++ (pos e ∷ [])) ++ (neg_ℤ (pos e) ∷ []))
+  collected_both e list one c runs =
+      let few : length list + 2 ≤ 2 * e = c.few in
+      let long = length-append (list ++ (pos e ∷ [])) (neg_ℤ (pos e) ∷ []) in
+      let first = length-append list (pos e ∷ []) in
       record {
         named =
-            ap (λ k. take k (set (set list count (pos e)) (count + 1) (neg_ℤ (pos e)))) two
-            ∙ take_more_set (set list count (pos e)) (count + 1) (neg_ℤ (pos e)) there
-            ∙ ap (λ zs. zs ++ (neg_ℤ (pos e) ∷ [])) (take_more_set list count (pos e) here)
-            ∙ append_assoc (take count list) (pos e ∷ []) (neg_ℤ (pos e) ∷ [])
+            append_assoc list (pos e ∷ []) (neg_ℤ (pos e) ∷ [])
             ∙ ap (λ zs. zs ++ (pos e ∷ (neg_ℤ (pos e) ∷ []))) c.named
             ∙ sym (next_names e one ∙ ap (λ b. names_in (e - 1) bs l i ++ cond b (pos e ∷ (neg_ℤ (pos e) ∷ [])) []) runs);
         few = omega arith;
       }
 
   -- the edge e does not run through the strip
-  pub collected_past : (e : ℕ) (list : List ℤ) (count : ℕ) → 1 ≤ e → Collected bs l i e list count → runs_through bs l i (pos e) ≡ false → Collected bs l i (e + 1) list count
-  collected_past e list count one c off =
-      let few : count + 2 ≤ 2 * e = c.few in
+  pub collected_past : (e : ℕ) (list : List ℤ) → 1 ≤ e → Collected bs l i e list → runs_through bs l i (pos e) ≡ false → Collected bs l i (e + 1) list
+  collected_past e list one c off =
+      let few : length list + 2 ≤ 2 * e = c.few in
       record {
         named = c.named ∙ sym (next_names e one ∙ ap (λ b. names_in (e - 1) bs l i ++ cond b (pos e ∷ (neg_ℤ (pos e) ∷ [])) []) off ∙ append-nil (names_in (e - 1) bs l i));
         few = omega arith;
@@ -104,23 +91,10 @@ module _ (n : ℕ) (bs : List ℤ) (l : Linework) (law : Lawful n l.turn) (i : �
   pub in_strip_within : (h : ℤ) → h ∈ names_in n bs l i → Within n h
   in_strip_within h m = held_within n l.turn law h (in_strip_held h m)
 
-  pub in_strip : (h : ℤ) → l.turn.held h ≡ true → runs_through bs l i h ≡ true → h ∈ names_in n bs l i
-  unfolding names_in
-  in_strip h held runs = ((filter_is (runs_through bs l i) (names n)).1 h).1 (in_names n h (held_named n l.turn law h held), true_T _ runs)
-
 module _ (n : ℕ) (bs : List ℤ) (l : Linework) (law : Lawful n l.turn) (placed : Placed n l.turn l.points) where
-  -- the edge of a name runs through the strip where the name starts
-  runs_home : (h : ℤ) → l.turn.held h ≡ true → runs_through bs l (home_strip bs l h) h ≡ true
-  runs_home (pos k) held =
-      let o = (held_on bs n l (law, placed) k held).order in
-      and_from _ _ (and_from _ _ held (le-leb _ _ (omega arith))) (le-leb _ _ o)
-  runs_home (negsuc k) held =
-      let o = (held_on bs n l (law, placed) (suc k) (law.closed (negsuc k) held)).order in
-      and_from _ _ (and_from _ _ held (le-leb _ _ o)) (le-leb _ _ (omega arith))
-
   -- the follower of a name that starts in the strip has a slot there
   pub follower_in : (i : ℕ) (h : ℤ) → l.turn.held h ≡ true → starts_in bs l i h ≡ true → l.turn.follower h ∈ names_in n bs l i
   follower_in i h held starts =
       let ahead : l.turn.held (l.turn.follower h) ≡ true = law.ahead h held in
       let home : home_strip bs l (l.turn.follower h) ≡ i = ap (λ o. strip_of bs (x_of o)) (placed.alike h held) ∙ eqb-true _ _ starts in
-      in_strip n bs l law i (l.turn.follower h) ahead (ap (λ k. runs_through bs l k (l.turn.follower h)) (sym home) ∙ runs_home (l.turn.follower h) ahead)
+      in_strip n bs l (law, placed) i (l.turn.follower h) (runs_home n bs l (law, placed) (l.turn.follower h) i ahead home)

@@ -1,18 +1,11 @@
 -- Lists of numbers that are written one after the other, each over its own part. Assumes nothing.
-use Rattle.std.proofs.Common.{◌≡◌, ℕ, ◌+◌, ◌-◌, ◌*◌, ◌<◌, ◌≤◌, List, [], ◌∷◌, ◌++◌, map, length, get_or, take, drop, sym, refl, ap, ◌∙◌, arith}
+use Rattle.std.proofs.Common.{◌≡◌, ℕ, ◌+◌, ◌-◌, ◌*◌, ◌≤◌, List, [], ◌∷◌, ◌++◌, map, length, take, drop, sym, refl, ap, ◌∙◌, arith}
 use borrow.Rule.Slice.PartMut.{put_mid}
 use Rattle.std.specs.List.{flat_map}
-use Rattle.std.proofs.lemmas.List.{flat_map_more, take_more, append_assoc, length-append, length-take-le, length-drop, take_all, take_at}
+use Rattle.std.proofs.lemmas.List.{append_assoc, length-append, length-take-le, length-drop, take_all, take_at}
 use Rattle.std.proofs.lemmas.Slice.{take-put_mid}
 
 module _ {X : Type 0} (enc : X → List ℕ) where
-  -- one element more is written, from place a to place b
-  pub element_more : (p : List ℕ) (xs : List X) (d : X) (i a b k : ℕ) (ys : List ℕ) → i < length xs → b ≡ a + length ys → a ≤ length p
-      → take a p ≡ flat_map enc (take i xs) → ys ≡ enc (get_or xs i d) → take b (put_mid a k p ys) ≡ flat_map enc (take (i + 1) xs)
-  element_more p xs d i a b k ys lt end room inv e =
-      take-put_mid a k p ys b end room ∙ ap (λ x. x ++ ys) inv ∙ ap (λ y. flat_map enc (take i xs) ++ y) e
-      ∙ flat_map_more enc [] (take i xs) (get_or xs i d) ∙ ap (flat_map enc) (sym (take_more xs i d lt))
-
   pub joined_map : {Y : Type 0} (f : Y → X) (ys : List Y) → flat_map enc (map f ys) ≡ flat_map (λ y. enc (f y)) ys
   joined_map f [] = refl
   joined_map f (y ∷ ys) = ap (λ z. enc (f y) ++ z) (joined_map f ys)

@@ -1,14 +1,15 @@
 -- The parts of a whole file: its strips one after the other, and its head. Assumes nothing.
-use Rattle.std.proofs.Common.{◌≡◌, ℕ, zero, suc, ◌+◌, ◌-◌, ◌*◌, ◌<◌, ◌≤◌, ◌⊎◌, List, [], ◌∷◌, ◌++◌, map, length, get_or, take, drop, set, ℤ, sym, refl, ap, ◌∙◌, subst, ap₂, inl, inr, add-one, arith}
+use Rattle.std.proofs.Common.{◌≡◌, ℕ, zero, suc, ◌+◌, ◌-◌, ◌*◌, ◌<◌, ◌≤◌, ◌⊎◌, List, [], ◌∷◌, ◌++◌, map, length, get_or, take, drop, ℤ, sym, refl, ap, ◌∙◌, subst, ap₂, inl, inr, add-one, arith}
 use borrow.Rule.Slice.PartMut.{put_mid}
 use Rattle.std.specs.List.{flat_map}
-use Rattle.std.proofs.lemmas.List.{flat_map_more, append_assoc, length-append, length-map, length-take-le, length-drop, take_more_set, map_push, get_or-map, get_or_at, get_or_append_left, take-append-drop, take_at, take_all}
+use Rattle.std.proofs.lemmas.List.{flat_map_more, append_assoc, length-append, length-map, length-take-le, length-drop, map_push, get_or-map, take-append-drop, take_at, take_all}
 use Rattle.std.proofs.lemmas.Slice.{drop-put_mid, drop-append-drop}
 use Rattle.std.proofs.lemmas.Bool.{cases_order}
 use Rattle.chart.specs.Linework.{Linework}
 use Rattle.strips.specs.Borders.{strip_count}
 use Rattle.file.specs.declared.view.Sizes.{Sizes}
 use Rattle.told.specs.Tells.{list_below}
+use Rattle.told.proofs.Borders.{below_length, below_at}
 use Rattle.writing.specs.Written.{u16_bytes, i32_bytes, names_in, points_in, strip_bytes, strip_numbers, written}
 use Rattle.writing.specs.Gathers.{size_of}
 use Rattle.writing.specs.Lays.{all_sizes, sizes_bytes, head_bytes, body_bytes}
@@ -16,19 +17,6 @@ use Rattle.writing.proofs.CodeParts.{joined_map, part_more, length_put_mid}
 use Rattle.writing.proofs.CodeGather.{length_joined, strip_long}
 
 module _ {A : Type 0} (f : ℕ → A) where
-  pub length_below : (n : ℕ) → length (list_below f n) ≡ n
-  length_below zero = refl
-  length_below (suc n) = length-append (list_below f n) (f n ∷ []) ∙ (let e = length_below n in omega arith)
-
-  pub get_or_below : (n j : ℕ) (d : A) → j < n → get_or (list_below f n) j d ≡ f j
-  get_or_below zero j d below = absurd (omega arith)
-  get_or_below (suc n) j d below = go (get_or_below n j d) (cases_order j n)
-    where
-      go : (j < n → get_or (list_below f n) j d ≡ f j) → (j ≡ n) ⊎ ((j < n) ⊎ (n < j)) → get_or (list_below f n ++ (f n ∷ [])) j d ≡ f j
-      go rec (inl e) = get_or_at (list_below f n) (f n) [] d j (length_below n ∙ sym e) ∙ ap f (sym e)
-      go rec (inr (inl l)) = get_or_append_left (list_below f n) (f n ∷ []) d j (let e = length_below n in omega arith) ∙ rec l
-      go rec (inr (inr l)) = absurd (omega arith)
-
   -- one more at the end
   pub joined_below : {B : Type 0} (enc : A → List B) (n : ℕ) → flat_map enc (list_below f (n + 1)) ≡ flat_map enc (list_below f n) ++ enc (f n)
   joined_below enc n = ap (λ k. flat_map enc (list_below f k)) (add-one n) ∙ sym (flat_map_more enc [] (list_below f n) (f n))
@@ -54,21 +42,24 @@ module _ (n : ℕ) (bs : List ℤ) (l : Linework) where
 
   -- the sizes of the first j strips are put down and added up
   pub record Measured (j : ℕ) (sizes : List Sizes) (total : ℕ) : Type 0 where
-    pub put : take j sizes ≡ map (size_of n bs l) (list_below suc j)
+    pub put : sizes ≡ map (size_of n bs l) (list_below suc j)
     pub long : total ≡ strips_long j
     pub few : total ≤ 786420 * j
 
-  pub measured_none : (sizes : List Sizes) → Measured 0 sizes 0
-  measured_none sizes = record { put = refl; long = refl; few = omega arith }
+  pub measured_none : (sizes : List Sizes) → sizes ≡ [] → Measured 0 sizes 0
+  measured_none sizes none = record { put = none; long = refl; few = omega arith }
+
+  pub measured_long : (j : ℕ) (sizes : List Sizes) (total : ℕ) → Measured j sizes total → length sizes ≡ j
+  measured_long j sizes total m = ap length m.put ∙ length-map (list_below suc j) (size_of n bs l) ∙ below_length suc j
 
   strip_grown : (j : ℕ) → strips_long (j + 1) ≡ strips_long j + (4 * length (names_in n bs l (suc j)) + 8 * length (points_in n bs l (suc j)))
   strip_grown j =
       ap length (joined_below suc (strip_bytes n bs l) j) ∙ length-append (flat_map (strip_bytes n bs l) (list_below suc j)) (strip_bytes n bs l (suc j))
       ∙ ap (λ k. strips_long j + k) (strip_long n bs l (suc j))
 
-  pub measured_more : (j : ℕ) (sizes : List Sizes) (total : ℕ) (own : Sizes) → j < length sizes → own ≡ size_of n bs l (j + 1) → own.vertices < 65536 → own.slots < 65536
-      → Measured j sizes total → Measured (j + 1) (set sizes j own) (total + (4 * own.slots + 8 * own.vertices))
-  measured_more j sizes total own room is v s m =
+  pub measured_more : (j : ℕ) (sizes : List Sizes) (total : ℕ) (own : Sizes) → own ≡ size_of n bs l (j + 1) → own.vertices < 65536 → own.slots < 65536
+      → Measured j sizes total → Measured (j + 1) (sizes ++ (own ∷ [])) (total + (4 * own.slots + 8 * own.vertices))
+  measured_more j sizes total own is v s m =
       let one : size_of n bs l (j + 1) ≡ size_of n bs l (suc j) = ap (size_of n bs l) (add-one j) in
       let few : total ≤ 786420 * j = m.few in
       let long : total ≡ strips_long j = m.long in
@@ -76,7 +67,7 @@ module _ (n : ℕ) (bs : List ℤ) (l : Linework) where
       let b : own.vertices ≡ length (points_in n bs l (suc j)) = ap (λ z. z.vertices) (is ∙ one) in
       record {
         put =
-            take_more_set sizes j own room ∙ ap₂ (λ xs x. xs ++ (x ∷ [])) m.put (is ∙ one)
+            ap₂ (λ xs x. xs ++ (x ∷ [])) m.put (is ∙ one)
             ∙ sym (map_push (size_of n bs l) (list_below suc j) (suc j)) ∙ ap (λ k. map (size_of n bs l) (list_below suc k)) (sym (add-one j));
         long = omega (arith, strip_grown j);
         few = omega arith;
@@ -85,11 +76,11 @@ module _ (n : ℕ) (bs : List ℤ) (l : Linework) where
   -- the sizes of strip j, counted from 0
   pub size_at : (j : ℕ) (d : Sizes) → j < strip_count bs → get_or (all_sizes n bs l) j d ≡ size_of n bs l (j + 1)
   size_at j d below =
-      get_or-map (size_of n bs l) (strip_numbers bs) j 0 d (let e = length_below suc (strip_count bs) in omega arith)
-      ∙ ap (size_of n bs l) (get_or_below suc (strip_count bs) j 0 below ∙ sym (add-one j))
+      get_or-map (size_of n bs l) (strip_numbers bs) j 0 d (let e = below_length suc (strip_count bs) in omega arith)
+      ∙ ap (size_of n bs l) (below_at suc (strip_count bs) j 0 below ∙ sym (add-one j))
 
   pub sizes_long : length (all_sizes n bs l) ≡ strip_count bs
-  sizes_long = length-map (strip_numbers bs) (size_of n bs l) ∙ length_below suc (strip_count bs)
+  sizes_long = length-map (strip_numbers bs) (size_of n bs l) ∙ below_length suc (strip_count bs)
 
   -- the first j strips are written
   pub record Stripwise (j : ℕ) (part : List ℕ) (at : ℕ) : Type 0 where
@@ -194,7 +185,7 @@ head_laid part count sizes borders s b long lc ls lb = sym (take_all (length par
         (omega arith) (omega (arith, long₂))
 
 -- how many bytes the whole takes
-pub written_long : (n : ℕ) (bs : List ℤ) (l : Linework) (s b : ℕ) → s ≡ strip_count bs → b ≡ length (body_bytes n bs l) → 2 + 4 * s + 4 * (s - 1) + b ≡ length (written n bs l)
+pub written_long : (n : ℕ) (bs : List ℤ) (l : Linework) (s b : ℕ) → s ≡ strip_count bs → b ≡ length (body_bytes n bs l) → 2 + 4 * s + 4 * length bs + b ≡ length (written n bs l)
 written_long n bs l s b many long =
     let few : length (all_sizes n bs l) ≡ strip_count bs = sizes_long n bs l in
     let head : length (head_bytes bs (all_sizes n bs l)) ≡ 2 + 4 * length (all_sizes n bs l) + 4 * length bs = head_long bs (all_sizes n bs l) in

@@ -76,7 +76,7 @@ module _ (n : ℕ) (bs : List ℤ) (l : Linework) (sound : Sound n l) (i : ℕ) 
 
   once : (k m : ℕ) → k < s.slots → m < s.slots → s.name k ≡ s.name m → k ≡ m
   once k m g h e =
-      apart_at (pos 0) hs (strip_apart n bs l sound i) k m (within k g) (within m h) (sym (array.name k (within k g)) ∙ e ∙ array.name m (within m h))
+      apart_at (pos 0) hs (strip_apart n bs l i) k m (within k g) (within m h) (sym (array.name k (within k g)) ∙ e ∙ array.name m (within m h))
 
   -- ---- the followers
   follows : (k : ℕ) → k < s.slots → s.follower k ≡ follower_slot n bs l i (s.name k)

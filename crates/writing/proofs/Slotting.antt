@@ -13,6 +13,11 @@ use Rattle.strips.proofs.Gains.{told_order, not_held}
 use Rattle.writing.specs.Written.{names_in}
 use Rattle.writing.proofs.Listing.{filter_join, filter_few}
 
+-- a strip has each name once
+pub strip_apart : (n : ℕ) (bs : List ℤ) (l : Linework) (i : ℕ) → Distinct (names_in n bs l i)
+unfolding names_in
+strip_apart n bs l i = (filter_is (runs_through bs l i) (names n)).0 (names_apart n)
+
 module _ (n : ℕ) (bs : List ℤ) (l : Linework) (sound : Sound n l) where
   -- ---- where an edge runs
   eastward : (e : ℕ) → l.turn.held (pos e) ≡ true → home_strip bs l (pos e) ≤ home_strip bs l (neg_ℤ (pos e))
@@ -41,10 +46,6 @@ module _ (n : ℕ) (bs : List ℤ) (l : Linework) (sound : Sound n l) where
   pub strip_runs : (i : ℕ) (h : ℤ) → h ∈ names_in n bs l i → runs_through bs l i h ≡ true
   unfolding names_in
   strip_runs i h m = T_true _ (((filter_is (runs_through bs l i) (names n)).1 h).0 m).1
-
-  pub strip_apart : (i : ℕ) → Distinct (names_in n bs l i)
-  unfolding names_in
-  strip_apart i = (filter_is (runs_through bs l i) (names n)).0 (names_apart n)
 
   -- ---- how many
   runs_off : (i : ℕ) (h : ℤ) → l.turn.held h ≡ false → runs_through bs l i h ≡ false

@@ -1,14 +1,14 @@
 // The arrays of one strip, each over the whole of its own part of the file.
 ghost use Rattle.std.specs.Prelude.{◌≡◌, ◌+◌, ◌*◌, ◌≤◌, true, map, length, ℤ};
 ghost use Rattle.std.specs.List.{flat_map};
-ghost use Rattle.turning.specs.Limits.{max_edge, line_for, marks_for};
-ghost use Rattle.flat.specs.Orbits.{◌∈◌};
+ghost use Rattle.turning.specs.Limits.{max_edge, line_for};
+ghost use Rattle.flat.specs.Orbits.{◌∈◌, Distinct};
 ghost use Rattle.chart.specs.Linework.{lines_of};
 ghost use Rattle.search.specs.Marks.{Within};
 ghost use Rattle.writing.specs.Written.{u16_bytes, i16_bytes, i32_bytes, names_in, follower_slot, start_of, points_in, strip_bytes};
 ghost use Rattle.writing.specs.Gathers.{Slotted};
 
-use crate::gather::{gather, starts_in};
+use crate::gather::{Names, gather, starts_in};
 use crate::words::write_each;
 use chart::Chart;
 use chart::point::Point;
@@ -16,9 +16,12 @@ use file::view::NONE;
 use search::marks::place_of;
 use strips::borders::Borders;
 use turning::Turning;
-use turning::limits::{LINE_NAMES, MARK_BYTES};
+use turning::limits::MARK_BYTES;
 
 const ORIGIN: Point = Point { x: 0, y: 0 };
+
+// For each name, at the place of its mark, the slot where it stands.
+type Slots = [u16; MARK_BYTES];
 
 // The point where a halfedge starts, or the origin where it starts nowhere.
 fn start_of<C: Chart>(chart: &C, h: i16) -> Point
@@ -27,22 +30,21 @@ fn start_of<C: Chart>(chart: &C, h: i16) -> Point
     chart.point(h).unwrap_or(ORIGIN)
 }
 
-// Notes for each name where in the list it stands; where it stands twice, the first place.
-fn note_slots(names: &[i16], slots: &mut [u16])
+// Notes for each name where in the list it stands.
+fn note_slots(names: &[i16], slots: &mut Slots)
     requires within { (h : ℤ) → h ∈ names.now → Within max_edge h }
-    requires long { (length names.now ≤ line_for max_edge) × (length slots.old ≡ marks_for max_edge) }
+    requires apart { Distinct names.now }
+    requires few { length names.now ≤ line_for max_edge }
     ensures { Slotted max_edge names.now slots.new }
 {
-    for k in (0..names.len()).rev() {
-        let at = place_of(names[k]);
-        slots[at] = k as u16;
+    for (k, h) in names.iter().enumerate() {
+        slots[place_of(*h)] = k as u16;
     }
 }
 
 // The slot that follows that of h, or none where h starts in another strip.
-fn follower_slot<C: Chart>(chart: &C, borders: &Borders, strip: u16, h: i16, slots: &[u16]) -> u16
+fn follower_slot<C: Chart>(chart: &C, borders: &Borders, strip: u16, h: i16, slots: &Slots) -> u16
     requires slotted { Slotted max_edge (names_in max_edge borders.now.items (lines_of C.Turning.turn C.Chart.points chart.now) strip) slots.now }
-    requires long { length slots.now ≡ marks_for max_edge }
     requires held { (C.Turning.turn chart.now).held h ≡ true }
     ensures { result ≡ follower_slot max_edge borders.now.items (lines_of C.Turning.turn C.Chart.points chart.now) strip h }
 {
@@ -50,8 +52,7 @@ fn follower_slot<C: Chart>(chart: &C, borders: &Borders, strip: u16, h: i16, slo
     if !starts_in(chart, borders, strip, h) {
         return NONE;
     }
-    let at = place_of(chart.follower(h));
-    slots[at]
+    slots[place_of(chart.follower(h))]
 }
 
 // Writes the names, two bytes each.
@@ -76,9 +77,9 @@ fn write_followers<C: Chart>(
     borders: &Borders,
     strip: u16,
     names: &[i16],
-    slots: &[u16],
+    slots: &Slots,
 )
-    requires long { (length part.old ≡ 2 * length names.now) × (length slots.now ≡ marks_for max_edge) }
+    requires long { length part.old ≡ 2 * length names.now }
     requires names { names.now ≡ names_in max_edge borders.now.items (lines_of C.Turning.turn C.Chart.points chart.now) strip }
     requires slots { Slotted max_edge names.now slots.now }
     ensures { part.new ≡ flat_map (λ h. u16_bytes (follower_slot max_edge borders.now.items (lines_of C.Turning.turn C.Chart.points chart.now) strip h)) names.now }
@@ -89,7 +90,6 @@ fn write_followers<C: Chart>(
         2,
         |h: i16|
             requires slotted { Slotted max_edge (names_in max_edge borders.now.items (lines_of C.Turning.turn C.Chart.points chart.now) strip) slots.now }
-            requires long { length slots.now ≡ marks_for max_edge }
             requires held { (C.Turning.turn chart.now).held h ≡ true }
             ensures { result ≡ u16_bytes (follower_slot max_edge borders.entry.now.items (lines_of C.Turning.turn C.Chart.points chart.entry.now) strip h) }
         { follower_slot(chart, borders, strip, h, slots).to_le_bytes() },
@@ -111,7 +111,7 @@ fn write_arrays<C: Chart>(
     requires long { length part.old ≡ 4 * length names.now + 8 * length firsts.now }
     ensures { part.new ≡ strip_bytes max_edge borders.now.items (lines_of C.Turning.turn C.Chart.points chart.now) strip }
 {
-    let mut slots = [0; MARK_BYTES];
+    let mut slots: Slots = [0; MARK_BYTES];
     note_slots(names, &mut slots);
     let followers = 2 * names.len();
     let xs = 4 * names.len();
@@ -149,10 +149,15 @@ pub(crate) fn write_strip<C: Chart>(part: &mut [u8], chart: &C, borders: &Border
     requires { length part.old ≡ length (strip_bytes max_edge borders.now.items (lines_of C.Turning.turn C.Chart.points chart.now) strip) }
     ensures { part.new ≡ strip_bytes max_edge borders.now.items (lines_of C.Turning.turn C.Chart.points chart.now) strip }
 {
-    let mut names = [0; LINE_NAMES];
-    let mut firsts = [0; LINE_NAMES];
-    let sizes = gather(chart, borders, strip, &mut names, &mut firsts);
-    let own = &names[0..sizes.slots as usize];
-    let starts = &firsts[0..sizes.vertices as usize];
-    write_arrays(part, chart, borders, strip, own, starts);
+    let mut names = Names::new();
+    let mut firsts = Names::new();
+    gather(chart, borders, strip, &mut names, &mut firsts);
+    write_arrays(
+        part,
+        chart,
+        borders,
+        strip,
+        names.as_slice(),
+        firsts.as_slice(),
+    );
 }

@@ -1,5 +1,5 @@
 // What one strip has: the names of its slots, and its vertices.
-ghost use Rattle.std.specs.Prelude.{◌≡◌, ◌≤◌, map, length, take, pos};
+ghost use Rattle.std.specs.Prelude.{◌≡◌, ◌≤◌, [], map, length, pos};
 ghost use Rattle.turning.specs.Limits.{max_edge, line_for};
 ghost use Rattle.chart.specs.Linework.{lines_of};
 ghost use Rattle.search.specs.Marks.{Clean};
@@ -7,6 +7,7 @@ ghost use Rattle.strips.specs.Borders.{runs_through};
 ghost use Rattle.writing.specs.Written.{names_in, points_in, starts_in, start_of};
 ghost use Rattle.writing.specs.Gathers.{Gathered, size_of};
 
+use arrayvec::ArrayVec;
 use chart::Chart;
 use chart::asks::{east_end, holds_edge, west_end};
 use file::view::Sizes;
@@ -17,7 +18,10 @@ use strips::taken::strip_at;
 use turning::Turning;
 use turning::limits::{LINE_NAMES, MARK_BYTES, MAX_EDGE};
 
-// Does the edge run through the strip?
+// Names of a strip, at most all that there are. They lie in the value itself: nothing is allocated.
+pub(crate) type Names = ArrayVec<i16, LINE_NAMES>;
+
+// Does the edge run through the strip? Its strips are named as where its slots are counted: one function for both would answer two strips or none, which each would take apart again.
 fn runs_through<C: Chart>(chart: &C, borders: &Borders, strip: u16, edge: u16) -> bool
     ensures { result ≡ runs_through borders.now.items (lines_of C.Turning.turn C.Chart.points chart.now) strip (pos edge) }
 {
@@ -36,74 +40,70 @@ pub(crate) fn starts_in<C: Chart>(chart: &C, borders: &Borders, strip: u16, h: i
     strip_at(borders, chart.point(h)) == strip
 }
 
-// Puts the names of the strip into the list, from its start; answers how many they are.
-fn collect_names<C: Chart>(chart: &C, borders: &Borders, strip: u16, names: &mut [i16]) -> u16
-    requires { length names.old ≡ line_for max_edge }
-    ensures named { take result names.new ≡ names_in max_edge borders.now.items (lines_of C.Turning.turn C.Chart.points chart.now) strip }
-    ensures few { result ≤ line_for max_edge }
+// Puts the names of the strip into an empty list.
+fn collect_names<C: Chart>(chart: &C, borders: &Borders, strip: u16, names: &mut Names)
+    requires { names.old.items ≡ [] }
+    ensures { names.new.items ≡ names_in max_edge borders.now.items (lines_of C.Turning.turn C.Chart.points chart.now) strip }
 {
-    let mut count: u16 = 0;
     for e in 1..=MAX_EDGE {
         if runs_through(chart, borders, strip, e) {
             let h = e as i16;
-            names[count as usize] = h;
-            names[count as usize + 1] = -h;
-            count += 2;
+            names.push(h);
+            names.push(-h);
         }
     }
-    count
 }
 
-// Puts the first name of each vertex of the strip into the list, from its start; answers how many they are. The marks are lent clean.
+// Puts the first name of each vertex of the strip into an empty list. The marks are lent clean.
 fn collect_firsts<C: Chart>(
     chart: &C,
     borders: &Borders,
     strip: u16,
     names: &[i16],
     marks: &mut Marks,
-    firsts: &mut [i16],
-) -> u16
+    firsts: &mut Names,
+)
     requires names { names.now ≡ names_in max_edge borders.now.items (lines_of C.Turning.turn C.Chart.points chart.now) strip }
+    requires few { length names.now ≤ line_for max_edge }
     requires marks { Clean marks.old }
-    requires firsts { (length firsts.old ≡ line_for max_edge) × (length names.now ≤ line_for max_edge) }
-    ensures started { map (start_of (lines_of C.Turning.turn C.Chart.points chart.now)) (take result firsts.new) ≡ points_in max_edge borders.now.items (lines_of C.Turning.turn C.Chart.points chart.now) strip }
-    ensures few { result ≤ length names.now }
+    requires empty { firsts.old.items ≡ [] }
+    ensures { map (start_of (lines_of C.Turning.turn C.Chart.points chart.now)) firsts.new.items ≡ points_in max_edge borders.now.items (lines_of C.Turning.turn C.Chart.points chart.now) strip }
 {
     chart.placed();
-    let mut count: u16 = 0;
     for &h in names {
         if starts_in(chart, borders, strip, h) && !is_marked(marks, h) {
             mark_round(chart, h, marks);
-            firsts[count as usize] = h;
-            count += 1;
+            firsts.push(h);
         }
     }
-    count
 }
 
-// Puts the names and the vertices of the strip into the two lists; answers how many they are.
+// Puts the names and the vertices of the strip into two empty lists.
 pub(crate) fn gather<C: Chart>(
     chart: &C,
     borders: &Borders,
     strip: u16,
-    names: &mut [i16],
-    firsts: &mut [i16],
-) -> Sizes
-    requires { (length names.old ≡ line_for max_edge) × (length firsts.old ≡ line_for max_edge) }
-    ensures { Gathered max_edge borders.now.items (lines_of C.Turning.turn C.Chart.points chart.now) strip result names.new firsts.new }
+    names: &mut Names,
+    firsts: &mut Names,
+)
+    requires names { names.old.items ≡ [] }
+    requires firsts { firsts.old.items ≡ [] }
+    ensures { Gathered max_edge borders.now.items (lines_of C.Turning.turn C.Chart.points chart.now) strip names.new.items firsts.new.items }
 {
     let mut marks = [0; MARK_BYTES];
-    let slots = collect_names(chart, borders, strip, names);
-    let own = &names[0..slots as usize];
-    let vertices = collect_firsts(chart, borders, strip, own, &mut marks, firsts);
-    Sizes { vertices, slots }
+    collect_names(chart, borders, strip, names);
+    collect_firsts(chart, borders, strip, names.as_slice(), &mut marks, firsts);
 }
 
 // How many vertices and slots the strip has.
 pub(crate) fn measure<C: Chart>(chart: &C, borders: &Borders, strip: u16) -> Sizes
     ensures { result ≡ size_of max_edge borders.now.items (lines_of C.Turning.turn C.Chart.points chart.now) strip }
 {
-    let mut names = [0; LINE_NAMES];
-    let mut firsts = [0; LINE_NAMES];
-    gather(chart, borders, strip, &mut names, &mut firsts)
+    let mut names = Names::new();
+    let mut firsts = Names::new();
+    gather(chart, borders, strip, &mut names, &mut firsts);
+    Sizes {
+        vertices: firsts.len() as u16,
+        slots: names.len() as u16,
+    }
 }

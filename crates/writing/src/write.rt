@@ -1,5 +1,5 @@
 // A sheet as the bytes of a file: the number of strips, their sizes, the borders, and then the strips.
-ghost use Rattle.std.specs.Prelude.{◌≡◌, ◌+◌, ◌*◌, ◌^◌, ◌≤◌, [], ◌∷◌, length, take, nat_le};
+ghost use Rattle.std.specs.Prelude.{◌≡◌, ◌+◌, ◌*◌, ◌^◌, ◌≤◌, [], ◌∷◌, length, nat_le};
 ghost use Rattle.std.specs.List.{flat_map};
 ghost use Rattle.turning.specs.Limits.{max_edge, max_strips};
 ghost use Rattle.turning.specs.Refusals.{asked};
@@ -14,6 +14,7 @@ ghost use Rattle.writing.specs.Lays.{all_sizes, sizes_bytes, head_bytes, body_by
 use crate::arrays::write_strip;
 use crate::gather::measure;
 use crate::words::write_each;
+use arrayvec::ArrayVec;
 use chart::Chart;
 use file::view::Sizes;
 use strips::borders::{Borders, strip_count};
@@ -22,17 +23,20 @@ use turning::Turning;
 use turning::limits::MAX_STRIPS;
 use turning::refusal::Refusal;
 
-// Puts the sizes of all strips into the list, from its start; answers how many bytes the strips take.
-fn measure_all<C: Chart>(chart: &C, borders: &Borders, sizes: &mut [Sizes]) -> usize
-    requires { length sizes.old ≡ max_strips }
-    ensures sizes { take (strip_count borders.now.items) sizes.new ≡ all_sizes max_edge borders.now.items (lines_of C.Turning.turn C.Chart.points chart.now) }
+// The sizes of strips, at most as many as a sheet may have. They lie in the value itself: nothing is allocated.
+type AllSizes = ArrayVec<Sizes, MAX_STRIPS>;
+
+// Puts the sizes of all strips into an empty list; answers how many bytes the strips take.
+fn measure_all<C: Chart>(chart: &C, borders: &Borders, sizes: &mut AllSizes) -> usize
+    requires { sizes.old.items ≡ [] }
+    ensures sizes { sizes.new.items ≡ all_sizes max_edge borders.now.items (lines_of C.Turning.turn C.Chart.points chart.now) }
     ensures long { result ≡ length (body_bytes max_edge borders.now.items (lines_of C.Turning.turn C.Chart.points chart.now)) }
     ensures few { result ≤ 2 ^ 25 }
 {
     let mut total = 0;
     for j in 0..strip_count(borders) {
         let own = measure(chart, borders, j + 1);
-        sizes[j as usize] = own;
+        sizes.push(own);
         total += own.bytes();
     }
     total
@@ -105,20 +109,15 @@ fn write_chart<C: Chart>(chart: &C, borders: &Borders, out: &mut [u8]) -> Result
     ensures answer { result ≡ asked ((nat_le (length (written max_edge borders.now.items (lines_of C.Turning.turn C.Chart.points chart.now))) (length out.old), ShortOut) ∷ []) (length (written max_edge borders.now.items (lines_of C.Turning.turn C.Chart.points chart.now))) }
     ensures bytes { out.new ≡ laid_over (written max_edge borders.now.items (lines_of C.Turning.turn C.Chart.points chart.now)) out.old }
 {
-    let mut sizes = [Sizes {
-        vertices: 0,
-        slots: 0,
-    }; MAX_STRIPS];
+    let mut sizes = AllSizes::new();
     let body = measure_all(chart, borders, &mut sizes);
-    let count = strip_count(borders) as usize;
-    let head = 2 + 4 * count + 4 * (count - 1);
+    let head = 2 + 4 * sizes.len() + 4 * borders.len();
     let end = head + body;
     if out.len() < end {
         return Err(Refusal::ShortOut);
     }
-    let own = &sizes[0..count];
-    write_head(&mut out[0..head], borders, own);
-    write_strips(&mut out[head..end], chart, borders, own);
+    write_head(&mut out[0..head], borders, sizes.as_slice());
+    write_strips(&mut out[head..end], chart, borders, sizes.as_slice());
     Ok(end)
 }
 

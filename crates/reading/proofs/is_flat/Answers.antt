@@ -11,5 +11,5 @@ unfolding flat
 returns c =
     let m = c.args.marks.now in
     let l = c.args.line.now in
-    let e : enough max_edge m l ≡ true = enough_both max_edge m l (omega (arith, c.requires.0)) (omega (arith, c.requires.1)) in
+    let e : enough max_edge m l ≡ true = enough_both max_edge m l (omega arith) (omega arith) in
     c.is_flat.ensures ∙ ap (λ k. eqb (k.vertices + k.loops) (k.edges + 2 * k.pieces)) (granted_is (enough max_edge m l) _ _ _ e c.in-Ok.ensures.answer)

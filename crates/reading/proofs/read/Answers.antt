@@ -1,14 +1,18 @@
-use Rattle.std.proofs.Common.{◌≡◌, true, false, leb, length, pos, Err, sym, refl, ap, ◌∙◌}
+use Rattle.std.proofs.Common.{◌≡◌, Err, true, leb, length, pos, sym, ap, ◌∙◌}
 use Rattle.turning.specs.Limits.{max_edge, slots, marks_for, line_for}
 use Rattle.search.specs.Buffers.{enough}
 use Rattle.search.proofs.Buffers.{enough_both, line_short, given_zero, given_same, given_whole}
+use Rattle.file.specs.declared.fault.Layer.TheVariants.{Call}
+use Rattle.file.specs.Faults.{told_fault}
+use Rattle.file.specs.Numbers.{call_number}
 use Rattle.file.specs.Places.{answered}
 use Rattle.reading.specs.Reading.{sheet_verdict, read_verdict}
 use Rattle.reading.proofs.read.Goals as goal
 
 pub returns-in_default-first_chunk_mut-clause-answer : goal.returns-in_default-first_chunk_mut-clause-answer
 returns-in_default-first_chunk_mut-clause-answer c =
-    sym (ap (λ lent. answered (read_verdict lent (leb slots (length c.args.sheet.now.rows.at.now)) c.args.bytes.now) tt) (line_short max_edge c.args.marks.now c.args.line.now c.in_default-first_chunk_mut.ensures.cases))
+    ap Err (c.from-short.ensures ∙ ap (told_fault Call call_number) c.new.ensures)
+    ∙ sym (ap (λ lent. answered (read_verdict lent (leb slots (length c.args.sheet.now.rows.at.now)) c.args.bytes.now) tt) (line_short max_edge c.args.marks.now c.args.line.now c.in_default-first_chunk_mut.ensures.cases))
 
 pub returns-in_default-first_chunk_mut-clause-zero : goal.returns-in_default-first_chunk_mut-clause-zero
 returns-in_default-first_chunk_mut-clause-zero c =

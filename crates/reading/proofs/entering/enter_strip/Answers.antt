@@ -10,12 +10,12 @@ loop-i-preserved c =
     let b = c.args.bytes.now in
     let j = c.args.j in
     let i = c.loop-i.i in
-    let same = c.requires.strip.1 in
+    let same = c.requires.strip in
     let l : i < (strip b j).slots = subst (λ s. i < s.slots) same c.loop-i-test.true in
     let put : Put (strip b j) i c.loop-i.entries c.enter_slot.new.entries = subst (λ s. Put s i c.loop-i.entries c.enter_slot.new.entries) same c.enter_slot.ensures in
-    slot_entered b j c.requires.sound (subst Turned same c.requires.strip.0.turned) c.requires.tells i l c.loop-i.entries c.enter_slot.new.entries put c.loop-i.invariant
+    slot_entered b j c.requires.sound (subst Turned same c.requires.judged.turned) c.requires.tells i l c.loop-i.entries c.enter_slot.new.entries put c.loop-i.invariant
 
 pub returns : goal.returns
 returns c =
-    let e : c.loop-i.i ≡ (strip c.args.bytes.now c.args.j).slots = sym (search rules) ∙ ap (λ s. s.slots) c.requires.strip.1 in
+    let e : c.loop-i.i ≡ (strip c.args.bytes.now c.args.j).slots = sym (search rules) ∙ ap (λ s. s.slots) c.requires.strip in
     strip_entered c.args.bytes.now c.args.j c.loop-i.i c.loop-i.entries e c.loop-i.invariant

@@ -1,9 +1,8 @@
-use Rattle.std.proofs.Common.{◌≡◌, true, false, get_or, sym, ap, ◌∙◌, w16}
+use Rattle.std.proofs.Common.{◌≡◌, true, false, get_or, sym, ap, ◌∙◌, None, w16}
 use Rattle.std.proofs.lemmas.Int.{to_z-of_z}
 use Rattle.turning.specs.Limits.{max_edge}
 use Rattle.search.specs.Marks.{place as mark_at}
 use Rattle.file.specs.Questions.{named}
-use Rattle.reading.specs.Entries.{absent}
 use Rattle.reading.proofs.Telling.{entry_at, entry_off}
 use Rattle.reading.proofs.entry.entry_of.Goals as goal
 
@@ -19,4 +18,4 @@ returns c =
     let es = c.args.entries.now in
     let q = to_z-of_z w16 h c.ranges.h in
     let e : named max_edge h ≡ true = ap (named max_edge) (sym q) ∙ sym c.name_good.ensures ∙ c.if-not-name_good.false in
-    ap (λ k. get_or es k absent) (c.place_of.ensures.value ∙ ap (mark_at max_edge) q) ∙ sym (entry_at es h e)
+    ap (λ k. get_or es k None) (c.place_of.ensures.value ∙ ap (mark_at max_edge) q) ∙ sym (entry_at es h e)

@@ -10,23 +10,23 @@ use Rattle.writing.specs.Written.{starts_in, names_in}
 use Rattle.writing.proofs.CodeNames.{follower_in}
 use Rattle.writing.proofs.arrays.follower_slot.Goals as goal
 
-pub place_of-at-requires : goal.place_of-at-requires
-place_of-at-requires g c =
+pub place_of-requires : goal.place_of-requires
+place_of-requires g c =
     let t = g.C.Turning.turn c.args.chart.now in
     let law = g.C.Turning.lawful c.args.chart.now in
     let back = to_z-of_z w16 c.follower.result (record { sfits = c.follower.type_inv }) in
     let is : c.follower.result ≡ t.follower c.args.h = c.follower.ensures ∙ ap t.follower (to_z-of_z w16 c.args.h c.ranges.h) in
     subst (Within max_edge) (sym (back ∙ is)) (held_within max_edge t law (t.follower c.args.h) (law.ahead c.args.h c.requires.held))
 
-pub bounds-slots-at : goal.bounds-slots-at
-bounds-slots-at g c =
+pub bounds-slots-place_of : goal.bounds-slots-place_of
+bounds-slots-place_of g c =
     let t = g.C.Turning.turn c.args.chart.now in
     let law = g.C.Turning.lawful c.args.chart.now in
     let back = to_z-of_z w16 c.follower.result (record { sfits = c.follower.type_inv }) in
     let is : c.follower.result ≡ t.follower c.args.h = c.follower.ensures ∙ ap t.follower (to_z-of_z w16 c.args.h c.ranges.h) in
-    let at : c.place_of-at.result ≡ place max_edge (t.follower c.args.h) = c.place_of-at.ensures.value ∙ ap (place max_edge) (back ∙ is) in
+    let at : c.place_of.result ≡ place max_edge (t.follower c.args.h) = c.place_of.ensures.value ∙ ap (place max_edge) (back ∙ is) in
     let in_range = place_below max_edge (t.follower c.args.h) (held_within max_edge t law (t.follower c.args.h) (law.ahead c.args.h c.requires.held)) in
-    omega (arith, c.requires.long)
+    omega arith
 
 pub returns : goal.returns
 returns g c =
@@ -36,7 +36,7 @@ returns g c =
     let h = c.args.h in
     let back = to_z-of_z w16 c.follower.result (record { sfits = c.follower.type_inv }) in
     let is : c.follower.result ≡ l.turn.follower h = c.follower.ensures ∙ ap l.turn.follower (to_z-of_z w16 h c.ranges.h) in
-    let at : c.place_of-at.result ≡ place max_edge (l.turn.follower h) = c.place_of-at.ensures.value ∙ ap (place max_edge) (back ∙ is) in
+    let at : c.place_of.result ≡ place max_edge (l.turn.follower h) = c.place_of.ensures.value ∙ ap (place max_edge) (back ∙ is) in
     let here : starts_in bs l c.args.strip h ≡ true = sym (ap (starts_in bs l c.args.strip) (to_z-of_z w16 h c.ranges.h)) ∙ sym c.if-not-starts_in.ensures in
     let slot : l.turn.follower h ∈ names_in max_edge bs l c.args.strip = follower_in max_edge bs l law c.placed.ensures c.args.strip h c.requires.held here in
     ap (λ k. get_or c.args.slots.now k 0) at ∙ c.requires.slotted (l.turn.follower h) slot ∙ sym (cond-true (starts_in bs l c.args.strip h) _ _ here)

@@ -1,12 +1,13 @@
-use Rattle.std.proofs.Common.{◌≡◌, ℕ, List, ◌++◌, length, ℤ, refl, ap, ◌∙◌, subst, ap₂}
+use Rattle.std.proofs.Common.{◌≡◌, ℕ, List, ◌++◌, length, ℤ, refl, sym, ap, ◌∙◌, subst, ap₂}
 use Rattle.std.specs.List.{flat_map}
-use Rattle.flat.specs.Orbits.{◌∈◌}
+use Rattle.flat.specs.Orbits.{◌∈◌, Distinct}
 use Rattle.turning.specs.Limits.{max_edge}
 use Rattle.chart.specs.Linework.{lines_of}
 use Rattle.writing.specs.Written.{u16_bytes, i16_bytes, i32_bytes, follower_slot, start_of}
 use Rattle.writing.proofs.CodeParts.{four_parts}
 use Rattle.writing.proofs.CodeGather.{length_joined, arrays_are}
 use Rattle.writing.proofs.CodeNames.{in_strip_within}
+use Rattle.writing.proofs.Slotting.{strip_apart}
 use Rattle.writing.proofs.WordByWord.{each_is}
 use Rattle.writing.proofs.arrays.write_arrays.Goals as goal
 
@@ -15,7 +16,8 @@ note_slots-requires g c =
     let l = lines_of g.C.Turning.turn g.C.Chart.points c.args.chart.now in
     record {
       within = λ h m. in_strip_within max_edge c.args.borders.now.items l (g.C.Turning.lawful c.args.chart.now) c.args.strip h (subst (λ zs. h ∈ zs) c.requires.names m);
-      long = (c.requires.few, refl);
+      apart = subst Distinct (sym c.requires.names) (strip_apart max_edge c.args.borders.now.items l c.args.strip);
+      few = c.requires.few;
     }
 
 pub returns : goal.returns

@@ -1,4 +1,4 @@
-use Rattle.std.proofs.Common.{ℕ, ℤ, List, get_or, ap, ◌∙◌, subst}
+use Rattle.std.proofs.Common.{ℕ, ℤ, List, get_or, ◌∙◌, subst}
 use Rattle.flat.specs.Orbits.{◌∈◌}
 use Rattle.turning.specs.Limits.{max_edge}
 use Rattle.chart.specs.Linework.{lines_of}
@@ -16,10 +16,7 @@ write_each-requires-clause-callable g c =
     λ k d lt.
     let z = get_or names k d in (
       subst (λ zs. Slotted max_edge zs c.args.slots.now) c.requires.names c.requires.slots,
-      (
-        c.requires.long.1,
-        in_strip_held max_edge c.args.borders.now.items l (g.C.Turning.lawful c.args.chart.now) c.args.strip z (subst (λ zs. z ∈ zs) c.requires.names (element_in names k d lt)),
-      ),
+      in_strip_held max_edge c.args.borders.now.items l (g.C.Turning.lawful c.args.chart.now) c.args.strip z (subst (λ zs. z ∈ zs) c.requires.names (element_in names k d lt)),
     )
 
 pub returns : goal.returns

@@ -1,4 +1,4 @@
-use Rattle.std.proofs.Common.{◌≡◌, ℕ, ◌+◌, ◌<◌, ◌≤◌, true, List, [], ◌∷◌, length, get_or, set, ℤ, pos, sym, ap, ◌∙◌, subst, arith, w16, SFits, rules}
+use Rattle.std.proofs.Common.{◌≡◌, ℕ, ◌+◌, ◌≤◌, true, List, [], ◌∷◌, ◌++◌, length, get_or, ℤ, pos, sym, ap, ◌∙◌, subst, w16, SFits, rules}
 use Rattle.std.proofs.lemmas.Int.{to_z-of_z}
 use Rattle.flat.specs.Orbits.{◌∈◌}
 use Rattle.turning.specs.Limits.{max_edge}
@@ -14,7 +14,10 @@ use Rattle.writing.proofs.gather.collect_firsts.Goals.{then-starts_in+then-not-i
 pub loop-h-init : goal.loop-h-init
 loop-h-init g c =
     let l = lines_of g.C.Turning.turn g.C.Chart.points c.args.chart.now in
-    firsts_none max_edge l (g.C.Turning.lawful c.args.chart.now) c.placed.ensures c.args.borders.now.items c.args.strip c.args.names.now c.args.marks.now c.args.firsts.now c.requires.marks
+    let bs = c.args.borders.now.items in
+    let names = c.args.names.now in
+    subst (Firsts max_edge l bs c.args.strip names 0 c.args.marks.now) (sym c.requires.empty)
+    (firsts_none max_edge l (g.C.Turning.lawful c.args.chart.now) c.placed.ensures bs c.args.strip names c.args.marks.now c.requires.marks)
 
 pub is_marked-requires : goal.is_marked-requires
 is_marked-requires g c =
@@ -34,11 +37,9 @@ mark_round-requires g c =
     let own : z ∈ names_in max_edge c.args.borders.now.items l c.args.strip = subst (λ zs. z ∈ zs) c.requires.names (element_in names c.loop-h.h-index (pos 0) c.loop-h-test.true) in
     ap l.turn.held (to_z-of_z w16 z f) ∙ in_strip_held max_edge _ l (g.C.Turning.lawful c.args.chart.now) _ z own
 
--- the lists as they are at the end of a turn
-alike : (l : Linework) (bs : List ℤ) (i : ℕ) (names : List ℤ) (k : ℕ) {m m' : List ℕ} {zs zs' : List ℤ} {count count' : ℕ} → m ≡ m' → zs ≡ zs' → count ≡ count'
-    → Firsts max_edge l bs i names k m' zs' count' → Firsts max_edge l bs i names k m zs count
-alike l bs i names k {m = m} {zs = zs} {zs' = zs'} {count' = count'} a b d f =
-    subst (λ x. Firsts max_edge l bs i names k m zs x) (sym d) (subst (λ x. Firsts max_edge l bs i names k m x count') (sym b) (subst (λ x. Firsts max_edge l bs i names k x zs' count') (sym a) f))
+-- the marks and the list as they are at the end of a turn
+alike : (l : Linework) (bs : List ℤ) (i : ℕ) (names : List ℤ) (k : ℕ) {m m' : List ℕ} {zs zs' : List ℤ} → m ≡ m' → zs ≡ zs' → Firsts max_edge l bs i names k m' zs' → Firsts max_edge l bs i names k m zs
+alike l bs i names k {m = m} {zs' = zs'} a b f = subst (Firsts max_edge l bs i names k m) (sym b) (subst (λ x. Firsts max_edge l bs i names k x zs') (sym a) f)
 
 pub loop-h-preserved : goal.loop-h-preserved
 loop-h-preserved g c =
@@ -56,32 +57,27 @@ loop-h-preserved g c =
     let held : l.turn.held z ≡ true = in_strip_held max_edge bs l law i z own in
     let back = to_z-of_z w16 z f in
     let starts : c.starts_in.result ≡ starts_in bs l i z = c.starts_in.ensures ∙ ap (starts_in bs l i) back in
-    let few = c.loop-h.invariant.few in
-    let room : c.loop-h.count < length c.loop-h.firsts = omega (arith, c.loop-h.auto.firsts, c.requires.firsts.0, c.requires.firsts.1) in
     elim c.if-starts_in.branch [
       | then-starts_in+then-not-is_marked w ↦
-          alike l bs i names (k + 1) w.marks-is (w.firsts-is ∙ ap (set c.loop-h.firsts c.loop-h.count) back) w.count-is
-          (firsts_new max_edge l law placed bs i names k c.loop-h.marks c.loop-h.firsts c.loop-h.count below c.loop-h.invariant held (sym starts ∙ w.if-starts_in.true)
-          (ap (marked max_edge c.loop-h.marks) (sym back) ∙ sym w.if-not-is_marked.ensures) room w.mark_round.new.marks
+          alike l bs i names (k + 1) w.marks-is (ap (λ v. v.items) w.firsts-is ∙ w.push.ensures.items ∙ ap (λ x. c.loop-h.firsts.items ++ (x ∷ [])) back)
+          (firsts_new max_edge l law placed bs i names k c.loop-h.marks c.loop-h.firsts.items below c.loop-h.invariant held (sym starts ∙ w.if-starts_in.true)
+          (ap (marked max_edge c.loop-h.marks) (sym back) ∙ sym w.if-not-is_marked.ensures) w.mark_round.new.marks
           (subst (λ y. Spreads max_edge l.turn (l.turn.follower ∷ []) y c.loop-h.marks w.mark_round.new.marks) back w.mark_round.ensures))
       | else-starts_in w ↦
-          alike l bs i names (k + 1) w.marks-is w.firsts-is w.count-is
+          alike l bs i names (k + 1) w.marks-is (ap (λ v. v.items) w.firsts-is)
           (elim w.else-starts_in.branch [
             | else-starts_in-via-then-starts_in+else-not-is_marked v ↦
-                firsts_old max_edge l law placed bs i names k c.loop-h.marks c.loop-h.firsts c.loop-h.count below c.loop-h.invariant held (sym starts ∙ v.if-starts_in.true)
+                firsts_old max_edge l law placed bs i names k c.loop-h.marks c.loop-h.firsts.items below c.loop-h.invariant held (sym starts ∙ v.if-starts_in.true)
                 (ap (marked max_edge c.loop-h.marks) (sym back) ∙ sym v.if-not-is_marked.ensures)
             | else-starts_in-via-else-starts_in v ↦
-                firsts_past max_edge l law placed bs i names k c.loop-h.marks c.loop-h.firsts c.loop-h.count below c.loop-h.invariant (sym starts ∙ v.if-starts_in.false)
+                firsts_past max_edge l law placed bs i names k c.loop-h.marks c.loop-h.firsts.items below c.loop-h.invariant (sym starts ∙ v.if-starts_in.false)
           ])
     ]
 
 pub returns : goal.returns
 returns g c =
     let l = lines_of g.C.Turning.turn g.C.Chart.points c.args.chart.now in
-    let past : length c.args.names.now ≤ c.loop-h.h-index = c.loop-h-test.false in
+    let law = g.C.Turning.lawful c.args.chart.now in
     let last = c.loop-h.auto.h-index-end in
-    let few = c.loop-h.invariant.few in
-    record {
-      started = firsts_all max_edge l (g.C.Turning.lawful c.args.chart.now) c.placed.ensures c.args.borders.now.items c.args.strip c.args.names.now c.loop-h.h-index c.loop-h.marks c.loop-h.firsts c.loop-h.count past c.loop-h.invariant c.requires.names;
-      few = omega arith;
-    }
+    let past : length c.args.names.now ≤ c.loop-h.h-index = c.loop-h-test.false in
+    firsts_all max_edge l law c.placed.ensures c.args.borders.now.items c.args.strip c.args.names.now c.loop-h.h-index c.loop-h.marks c.loop-h.firsts.items past c.loop-h.invariant c.requires.names

@@ -5,4 +5,4 @@ use Rattle.writing.proofs.write.measure_all.Given as goal
 
 -- the first j strips are measured
 abbrev pub invariant-loop-j : goal.invariant-loop-j
-invariant-loop-j g l = Measured max_edge l.borders.items (lines_of g.C.Turning.turn g.C.Chart.points l.chart) l.j l.sizes l.total
+invariant-loop-j g l = Measured max_edge l.borders.items (lines_of g.C.Turning.turn g.C.Chart.points l.chart) l.j l.sizes.items l.total

@@ -9,8 +9,8 @@ use Rattle.laws.proofs.Equal.{tell}
 use Rattle.halfedges.specs.declared.halfedge.Halfedge.{Halfedge}
 use Rattle.halfedges.specs.View.{none, seen, written}
 use Rattle.halfedges.specs.Rows.{home, Indexed, lines_in, Core}
-use Rattle.halfedges.specs.Homes.{HomesAlone, with_strip}
-use Rattle.halfedges.proofs.Alone.{held_home, named_home, moved_lines, moved_indexed, moved_alone, moved_here, moved_there}
+use Rattle.halfedges.specs.Homes.{HomesAlone}
+use Rattle.halfedges.proofs.Alone.{with_strip, held_home, named_home, moved_lines, moved_indexed, moved_alone, moved_here, moved_there}
 use Rattle.halfedges.proofs.Beside.{core_same}
 use Rattle.halfedges.proofs.Meaning.{held_slot}
 use Rattle.halfedges.proofs.Views.{row_is, write_view}

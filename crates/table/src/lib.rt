@@ -57,7 +57,7 @@ impl<'a> Table<'a> {
     fn has_room(&self) -> bool
         ensures { (p q : Point) → result ≡ fits_of self.now.rows.at.now p q }
     {
-        self.rows.at.len() >= SLOTS && count_edges(self) as usize * 2 + 2 <= SLOTS
+        self.rows.is_long() && count_edges(self) as usize * 2 + 2 <= SLOTS
     }
 }
 

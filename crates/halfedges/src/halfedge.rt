@@ -27,7 +27,7 @@ pub const FREE: Halfedge = Halfedge {
 };
 
 // The records as they are lent. A memory that is too short holds nothing, and is left as it is.
-// No ghost field says what holds of them: it holds between changes alone, and of a memory that is long enough, which the stores say.
+// No ghost field says what holds of them: it holds between changes alone, and of a memory that is long enough, which the stores say. That they are enough is not always so either, and the functions below are given a plain slice: so each that writes asks for it.
 // A struct for the inside of a change, made of a part of the loan, was tried: a call may set its field to other records, so its maker learns nothing of these (the goal `returns`).
 #[derive(Drop)]
 pub struct Rows<'a> {

@@ -29,7 +29,7 @@ pub(crate) fn copied(borders: &Borders) -> Borders
     copy
 }
 
-// How many strips the borders make.
+// How many strips the borders make. Readers take the list as it is typed, for its bound: of a slice, this sum could go past 16 bits.
 pub fn strip_count(borders: &Borders) -> u16
     ensures count { result ≡ strip_count borders.now.items }
     ensures few { result ≤ max_strips }
@@ -52,6 +52,7 @@ pub fn strip_of(borders: &Borders, x: i32) -> u16
 }
 
 // Are all borders in range, and each above the one before it?
+// Not by windows: these pass over a single border, whose range is asked too, so the list would be walked twice.
 fn is_rising(borders: &[i32]) -> bool
     ensures { result ≡ rising borders.now }
 {

@@ -75,6 +75,7 @@ impl<'a> Sheet<'a> {
     }
 }
 
+// One line each over the lent records, as in a table: why the records have no such impl, and why the two stores share no changes, stands there.
 impl Turning for Sheet<'_> {
     ghost turn = { λ s. turn_of (seen s.rows.at.now) };
 

@@ -7,7 +7,7 @@ ghost use Rattle.strips.specs.Cuts.{listed, border_questions};
 
 use arrayvec::ArrayVec;
 use chart::point::is_within;
-use turning::limits::{MAX_BORDERS, MAX_COORDINATE};
+use turning::limits::MAX_BORDERS;
 use turning::refusal::Refusal;
 
 // They lie in the value itself: a sheet allocates nothing.
@@ -52,19 +52,10 @@ pub fn strip_of(borders: &Borders, x: i32) -> u16
 }
 
 // Are all borders in range, and each above the one before it?
-// Not by windows: these pass over a single border, whose range is asked too, so the list would be walked twice.
 fn is_rising(borders: &[i32]) -> bool
     ensures { result ≡ rising borders.now }
 {
-    // Every border in range is above this.
-    let mut last = -MAX_COORDINATE - 1;
-    for b in borders {
-        if !is_within(*b) || *b <= last {
-            return false;
-        }
-        last = *b;
-    }
-    true
+    borders.iter().all(|b| is_within(*b)) && borders.is_sorted_by(|a, b| a < b)
 }
 
 // The borders of a list, if a sheet may be cut there.

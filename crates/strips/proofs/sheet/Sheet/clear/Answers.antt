@@ -8,7 +8,7 @@ invariant_of-self c =
     let e = c.clear.ensures in
     record { ok = ∣ freed_kept _ c.clear.new.self.at.now e.length e.freed c.none-self.result.items ∣₁; rises = ap rising c.none-self.ensures }
 
-pub returns : goal.returns
-returns c =
+pub returns-clause-empty : goal.returns-clause-empty
+returns-clause-empty c =
     let e = c.clear.ensures in
-    record { empty = freed_lines _ c.clear.new.self.at.now e.length e.freed; uncut = c.none-self.ensures; length = e.length; left = e.left }
+    freed_lines _ c.clear.new.self.at.now e.length e.freed

@@ -8,7 +8,7 @@ invariant_of-result c =
     let e = c.new.ensures in
     record { ok = ∣ freed_kept _ c.new.result.at.now e.length e.freed c.none.result.items ∣₁; rises = ap rising c.none.ensures }
 
-pub returns : goal.returns
-returns c =
+pub returns-clause-empty : goal.returns-clause-empty
+returns-clause-empty c =
     let e = c.new.ensures in
-    record { empty = freed_lines _ c.new.result.at.now e.length e.freed; uncut = c.none.ensures; length = e.length; left = e.left }
+    freed_lines _ c.new.result.at.now e.length e.freed

@@ -4,7 +4,7 @@ ghost use Rattle.std.specs.Prelude.{◌≡◌, ◌+◌, ◌≤◌, length};
 
 use chart::point::Point;
 use edits::{join, remove, split, sprout, start};
-use file::fault::{Fault, Layer};
+use file::fault::Fault;
 use file::le::{read_i16, read_i32, read_u16};
 use halfedges::halfedge::FREE;
 use questions::Counts;
@@ -121,16 +121,14 @@ fn put_answer(place: &mut [u8], answer: Result<(), Refusal>, c: Counts)
 fn put_fault(place: &mut [u8], fault: Fault)
     ensures { length place.new ≡ length place.old }
 {
-    let layer = match fault.layer {
-        Layer::File => 1,
-        Layer::Strip => 2,
-        Layer::Seam => 3,
-        Layer::Flat => 4,
-        Layer::Call => 5,
-    };
     put(
         place,
-        &[layer, fault.number as u16, fault.strip, fault.place],
+        &[
+            fault.layer as u16,
+            fault.number as u16,
+            fault.strip,
+            fault.place,
+        ],
     );
 }
 

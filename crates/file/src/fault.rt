@@ -2,19 +2,19 @@
 ghost use Rattle.std.specs.Prelude.{◌≡◌, ℕ};
 ghost use Rattle.file.specs.declared.fault.Layer.{Layer};
 
-// In which layer a question is asked.
+// In which layer a question is asked, with the number by which it goes over the boundary.
 #[derive(Clone, Copy, PartialEq, Eq, Debug, Drop)]
 pub enum Layer {
     // The whole file: questions 1 to 5.
-    File,
+    File = 1,
     // Each strip: questions 6 to 12.
-    Strip,
+    Strip = 2,
     // The seams between strips: questions 13 to 16.
-    Seam,
+    Seam = 3,
     // The line work as a whole: question 17.
-    Flat,
+    Flat = 4,
     // The call itself, what it is lent: questions 18 and 20.
-    Call,
+    Call = 5,
 }
 
 // A fault as a reader tells it.

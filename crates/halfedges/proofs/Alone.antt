@@ -9,7 +9,8 @@ use Rattle.turning.specs.Turn.{Lawful}
 use Rattle.laws.proofs.Equal.{tell}
 use Rattle.halfedges.specs.View.{View, none, row_of, written}
 use Rattle.halfedges.specs.Rows.{turn_of, row_point, strips_of, lines_in, home, Unlinked, Indexed, count, taken_row, used, row_in, slot_count, edge_count}
-use Rattle.halfedges.specs.Homes.{HomesAlone, with_strip}
+use Rattle.halfedges.specs.declared.halfedge.Halfedge.{Halfedge}
+use Rattle.halfedges.specs.Homes.{HomesAlone}
 use Rattle.halfedges.proofs.Counted.{count_same, count_none}
 use Rattle.halfedges.proofs.EdgeCount.{edges_none, edges_more}
 use Rattle.halfedges.proofs.Meaning.{held_slot}
@@ -236,6 +237,10 @@ module _ (n cap : ℕ) (v : View) (x : Indexed cap v) (w : Lawful n (turn_of v))
   alone_unlinked s l u e = let r = alone s l u e in (ap (λ y. y.follower) r, ap (λ y. y.predecessor) r)
 
 -- ---- a row moves to another strip
+-- the row in another strip
+abbrev pub with_strip : ℕ → Halfedge → Halfedge
+with_strip i r = record { strip = i; name = r.name; follower = r.follower; predecessor = r.predecessor; x = r.x; y = r.y; index = r.index }
+
 module _ (cap : ℕ) (v : View) (s i : ℕ) where
   abbrev v' : View
   v' = written s (with_strip i (v.row s)) v

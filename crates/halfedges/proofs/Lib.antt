@@ -12,3 +12,4 @@ pub mod Props
 pub mod Scans
 pub mod Copying
 pub mod Alone
+pub mod Asked

@@ -1,18 +1,54 @@
 -- What the write of a held name's row, and one name's going, do to the meaning of rows. Assumes nothing.
-use Rattle.std.proofs.Common.{◌≡◌, ℕ, suc, ◌+◌, ◌≤◌, true, false, cond, eqb, ◌⊎◌, ℤ, pos, Some, None, sym, refl, ap, ◌∙◌, subst, inl, inr, arith}
+use Rattle.std.proofs.Common.{◌≡◌, ℕ, suc, ◌+◌, ◌-◌, ◌<◌, ◌≤◌, Bool, true, false, cond, eqb, leb, ◌⊎◌, List, length, get_or, set, ℤ, pos, Some, None, sym, refl, ap, ◌∙◌, subst, ap₂, inl, inr, arith}
 use Rattle.std.proofs.lemmas.Bool.{cond-true, cond-false, both_ways, leb-true}
 use Rattle.std.proofs.lemmas.Bool.Decides.{eqb_tells, leb_tells}
 use Rattle.flat.specs.Orbits.{indicator}
+use Rattle.turning.specs.Limits.{max_edge, slots}
 use Rattle.chart.specs.Changes.{at, drawn}
 use Rattle.laws.specs.Rotations.{Rotation}
 use Rattle.laws.proofs.Equal.{tell, Tells}
 use Rattle.halfedges.specs.declared.halfedge.Halfedge.{Halfedge}
-use Rattle.halfedges.specs.View.{View, none, row_of, written, led, trailed, with_follower, with_predecessor}
+use Rattle.halfedges.specs.View.{View, none, bare, view, seen, row_of, written, led, trailed, with_follower, with_predecessor}
 use Rattle.halfedges.specs.Rows.{turn_of, row_point, points_of, strips_of, home, Unlinked, Indexed, unhooked, taken_row, used, same_place, slot_count}
+use Rattle.halfedges.specs.Nothing.{short_lines}
+use Rattle.halfedges.proofs.Views.{row_is, write_view}
 use Rattle.halfedges.proofs.Counted.{count_more, slot_loss}
 
 pub held_slot : (v : View) (h : ℤ) → (turn_of v).held h ≡ true → 1 ≤ v.entry h
 held_slot v h e = grind (arith, eqb_tells (v.entry h) 0)
+
+-- a memory where a name is held is long enough
+pub held_long : (n cap : ℕ) (rs : List Halfedge) (h : ℤ) → (turn_of (view n cap rs)).held h ≡ true → cap ≤ length rs
+held_long n cap rs h e = go (leb cap (length rs)) refl
+  where
+    go : (b : Bool) → leb cap (length rs) ≡ b → cap ≤ length rs
+    go true l = leb-true _ _ l
+    go false l = absurd (both_ways _ (ap (λ x. x.turn.held h) (short_lines n cap rs l)) e)
+
+-- ---- the record of a held name's row is set
+module _ (rs : List Halfedge) (x : Indexed slots (seen rs)) (h : ℤ) (here : (turn_of (seen rs)).held h ≡ true) where
+  slot_is : suc ((seen rs).entry h - 1) ≡ (seen rs).entry h
+  slot_is = let low = held_slot (seen rs) h here in omega arith
+
+  pub held_inside : (seen rs).entry h - 1 < length rs
+  held_inside =
+      let low = held_slot (seen rs) h here in
+      let high = leb-true ((seen rs).entry h) slots (x.inside h) in
+      let long = held_long max_edge slots rs h here in
+      omega arith
+
+  row_there : bare (get_or rs ((seen rs).entry h - 1) none) ≡ row_of (seen rs) h
+  row_there = sym (row_is max_edge slots rs ((seen rs).entry h - 1)) ∙ ap (seen rs).row slot_is
+
+  pub held_led : (f : ℤ) (r : Halfedge) → r ≡ get_or rs ((seen rs).entry h - 1) none → seen (set rs ((seen rs).entry h - 1) (with_follower f r)) ≡ led h f (seen rs)
+  held_led f r e =
+      write_view max_edge slots rs ((seen rs).entry h - 1) (with_follower f r) held_inside (ap (λ y. y.index) e)
+      ∙ ap₂ (λ i y. written i (with_follower f y) (seen rs)) slot_is (ap bare e ∙ row_there)
+
+  pub held_trailed : (p : ℤ) (r : Halfedge) → r ≡ get_or rs ((seen rs).entry h - 1) none → seen (set rs ((seen rs).entry h - 1) (with_predecessor p r)) ≡ trailed h p (seen rs)
+  held_trailed p r e =
+      write_view max_edge slots rs ((seen rs).entry h - 1) (with_predecessor p r) held_inside (ap (λ y. y.index) e)
+      ∙ ap₂ (λ i y. written i (with_predecessor p y) (seen rs)) slot_is (ap bare e ∙ row_there)
 
 -- ---- a held name's row is written, under its name
 module _ (cap : ℕ) (v : View) (x : Indexed cap v) (b : ℤ) (here : (turn_of v).held b ≡ true) (r : Halfedge) (name : r.name ≡ b) where

@@ -1,6 +1,7 @@
 -- What one write does to the two maps. Assumes nothing.
-use Rattle.std.proofs.Common.{◌≡◌, ℕ, zero, suc, ◌+◌, ◌*◌, ◌/◌, ◌%◌, ◌<◌, ◌≤◌, Bool, true, false, cond, ◌&&◌, eqb, leb, ◌≢◌, ◌⊎◌, List, length, get_or, set, ℤ, pos, negsuc, ◌+ℤ◌, neg_ℤ, nat_abs, ◌≤ℤ◌, sym, refl, ap, ◌∙◌, inl, inr, arith}
-use Rattle.std.proofs.lemmas.List.{get_or-set_same, get_or-set_other, length-set}
+use Rattle.std.proofs.Common.{◌≡◌, ℕ, zero, suc, ◌+◌, ◌*◌, ◌/◌, ◌%◌, ◌<◌, ◌≤◌, Bool, true, false, cond, ◌&&◌, eqb, leb, ◌≢◌, ◌⊎◌, List, length, ◌++◌, get_or, set, ℤ, pos, negsuc, ◌+ℤ◌, neg_ℤ, nat_abs, ◌≤ℤ◌, sym, refl, ap, ◌∙◌, inl, inr, arith}
+use Rattle.std.proofs.lemmas.List.{get_or-set_same, get_or-set_other, length-set, length-append, set-append_left}
+use Rattle.std.proofs.Math.ListN.{get_or-append}
 use Rattle.std.proofs.lemmas.Int.{ints}
 use Rattle.std.proofs.lemmas.Bool.{cond-true, cond-false, cases_eq, le-leb}
 use Rattle.std.proofs.lemmas.Bool.Decides.{eqb_tells, leb_tells}
@@ -86,6 +87,23 @@ module _ (n cap : ℕ) (rs : List Halfedge) (i : ℕ) (r : Halfedge) (l : i < le
   pub write_view : view n cap (set rs i r) ≡ written (suc i) (bare r) (view n cap rs)
   unfolding view
   write_view = λ d. record { entry = λ h. cond (leb cap (length-set rs i r d) && is_name n h) (write_entry (key n h) d) 0; row = λ j. write_row j d }
+
+-- ---- the same where the rows after the first ones stand beside
+module _ (n cap : ℕ) (items rest : List Halfedge) (i : ℕ) (l : i < length items) where
+  first_row : get_or (items ++ rest) i none ≡ get_or items i none
+  first_row = get_or-append items rest none i l
+
+  -- the row at slot i + 1 is one of the first
+  pub first_is : (view n cap (items ++ rest)).row (suc i) ≡ bare (get_or items i none)
+  first_is = row_is n cap (items ++ rest) i ∙ ap bare first_row
+
+  pub first_written : (r : Halfedge) → r.index ≡ (get_or items i none).index → view n cap (set items i r ++ rest) ≡ written (suc i) (bare r) (view n cap (items ++ rest))
+  first_written r keep =
+      ap (view n cap) (sym (set-append_left items rest i r l))
+      ∙ write_view n cap (items ++ rest) i r (let m = length-append items rest in omega arith) (keep ∙ sym (ap (λ x. x.index) first_row))
+
+  pub first_length : (r : Halfedge) → length (set items i r ++ rest) ≡ length (items ++ rest)
+  first_length r = ap length (sym (set-append_left items rest i r l)) ∙ length-set (items ++ rest) i r
 
 -- ---- an entry is noted
 abbrev pub with_entry : ℕ → ℕ → Halfedge → Halfedge

@@ -3,3 +3,4 @@ pub mod Rows
 pub mod Nothing
 pub mod Copies
 pub mod Homes
+pub mod Lending

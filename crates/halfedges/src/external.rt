@@ -24,7 +24,7 @@ fn find_slot(rows: &[Halfedge], strip: u16, k: i16) -> usize
     first.unwrap() + 1
 }
 
-// Puts an external row of the name k into the strip, at any free slot.
+// Puts an external row of the name k into the strip, at any free slot: a call of the next with nothing known, so that callers need not show that the slots before are used.
 pub fn plant(rows: &mut [Halfedge], strip: u16, k: i16)
     requires core { Core max_edge slots rows.old }
     requires room { used slots (seen rows.old) < slots }
@@ -74,7 +74,7 @@ pub fn uproot(rows: &mut [Halfedge], strip: u16, k: i16)
     write(rows, s, FREE);
 }
 
-// Puts the external rows of a held edge into the strips between its two ends: -edge west of each border that it crosses, +edge east of it.
+// Puts the external rows of a held edge into the strips between its two ends: -edge west of each border that it crosses, +edge east of it. A call of the next with nothing known.
 pub fn plant_edge(rows: &mut [Halfedge], edge: u16)
     requires core { Core max_edge slots rows.old }
     requires here { (turn_of (seen rows.old)).held (pos edge) ≡ true }

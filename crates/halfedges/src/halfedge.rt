@@ -27,7 +27,7 @@ pub const FREE: Halfedge = Halfedge {
 };
 
 // The records as they are lent. A memory that is too short holds nothing, and is left as it is.
-// No ghost field says what holds of them: it holds between changes alone, and of a memory that is long enough, which the stores say.
+// No ghost field says what holds of them: it holds between changes alone, and of a memory that is long enough, which the stores say. That they are enough is not always so either, and the functions below are given a plain slice: so each that writes asks for it.
 // A struct for the inside of a change, made of a part of the loan, was tried: a call may set its field to other records, so its maker learns nothing of these (the goal `returns`).
 #[derive(Drop)]
 pub struct Rows<'a> {
@@ -47,10 +47,9 @@ impl<'a> Rows<'a> {
         ensures length { length result.at.now ≡ length memory.old }
         ensures left { length memory.old < slots → result.at.now ≡ memory.old }
     {
-        if memory.len() >= SLOTS {
-            memory.fill(FREE);
-        }
-        Rows { at: memory }
+        let mut rows = Rows { at: memory };
+        rows.clear();
+        rows
     }
 
     // Frees every record.
@@ -59,16 +58,23 @@ impl<'a> Rows<'a> {
         ensures length { length self.new.at.now ≡ length self.old.at.now }
         ensures left { length self.old.at.now < slots → self.new.at.now ≡ self.old.at.now }
     {
-        if self.at.len() >= SLOTS {
+        if self.is_long() {
             self.at.fill(FREE);
         }
     }
 
     // Are there enough records?
+    pub fn is_long(&self) -> bool
+        ensures { result ≡ nat_le slots (length self.now.at.now) }
+    {
+        self.at.len() >= SLOTS
+    }
+
+    // The same, with the refusal where there are not.
     pub fn ready(&self) -> Result<(), Refusal>
         ensures { result ≡ asked ((nat_le slots (length self.now.at.now), ShortMemory) ∷ []) tt }
     {
-        if self.at.len() < SLOTS {
+        if !self.is_long() {
             return Err(Refusal::ShortMemory);
         }
         Ok(())

@@ -1,40 +1,30 @@
 // The links of one name at a time: what leads to what, and a name that comes in or goes out.
-ghost use Rattle.std.specs.Prelude.{◌≡◌, ◌<◌, ◌≤◌, true, length, ℤ, pos, neg_ℤ, ◌≤ℤ◌, Option};
+ghost use Rattle.std.specs.Prelude.{◌≡◌, ◌-◌, ◌<◌, ◌≤◌, true, length, ℤ, pos, neg_ℤ, ◌≤ℤ◌, Option, slice_index_or};
+ghost use Rattle.std.specs.Borrow.{sem};
 ghost use Rattle.turning.specs.Limits.{max_edge, slots};
 ghost use Rattle.chart.specs.declared.point.Point.{Point};
 ghost use Rattle.laws.specs.Rotations.{Rotation, Fresh};
-ghost use Rattle.halfedges.specs.View.{bare, seen, led, trailed};
+ghost use Rattle.halfedges.specs.View.{none, bare, seen};
+ghost use Rattle.halfedges.specs.Lending.{LendsRow};
 ghost use Rattle.halfedges.specs.Rows.{turn_of, Indexed, unhooked, settled, hooked, CornerHeld, Brought, used};
 
 use crate::halfedge::{FREE, Halfedge};
 use crate::slots::{free_slot, note, read, slot, write};
 use chart::point::Point;
 
-// Makes f the follower of the name h.
-fn set_follower(rows: &mut [Halfedge], h: i16, f: i16)
-    requires long { slots ≤ length rows.old }
+// The home row of a held name, to be changed.
+fn held_row(rows: &mut [Halfedge], h: i16) -> &mut Halfedge
     requires indexed { Indexed slots (seen rows.old) }
     requires here { (turn_of (seen rows.old)).held h ≡ true }
-    ensures { seen rows.new ≡ led h f (seen rows.old) }
+    ensures* lent { sem 𝓛 (LendsRow rows.entry h result) }
+    ensures value { result.now ≡ slice_index_or rows.old ((seen rows.old).entry h - 1) none }
 {
     let s = slot(rows, h);
-    rows[s - 1].follower = f;
-}
-
-// Makes p the predecessor of the name h.
-fn set_predecessor(rows: &mut [Halfedge], h: i16, p: i16)
-    requires long { slots ≤ length rows.old }
-    requires indexed { Indexed slots (seen rows.old) }
-    requires here { (turn_of (seen rows.old)).held h ≡ true }
-    ensures { seen rows.new ≡ trailed h p (seen rows.old) }
-{
-    let s = slot(rows, h);
-    rows[s - 1].predecessor = p;
+    &mut rows[s - 1]
 }
 
 // Takes the name h out of its round, and frees its row.
 pub fn unhook(rows: &mut [Halfedge], h: i16)
-    requires long { slots ≤ length rows.old }
     requires indexed { Indexed slots (seen rows.old) }
     requires rotation { Rotation max_edge (turn_of (seen rows.old)) }
     requires here { (turn_of (seen rows.old)).held h ≡ true }
@@ -42,8 +32,8 @@ pub fn unhook(rows: &mut [Halfedge], h: i16)
 {
     let s = slot(rows, h);
     let r = read(rows, s);
-    set_follower(rows, r.predecessor, r.follower);
-    set_predecessor(rows, r.follower, r.predecessor);
+    held_row(rows, r.predecessor).follower = r.follower;
+    held_row(rows, r.follower).predecessor = r.predecessor;
     write(rows, s, FREE);
     note(rows, h, 0);
 }
@@ -86,8 +76,8 @@ fn hook(rows: &mut [Halfedge], s: usize, strip: u16, k: i16, corner: Option<i16>
         Some(c) => {
             let i = slot(rows, c);
             let after = read(rows, i).follower;
-            set_follower(rows, c, k);
-            set_predecessor(rows, after, k);
+            held_row(rows, c).follower = k;
+            held_row(rows, after).predecessor = k;
             settle(
                 rows,
                 s,

@@ -80,7 +80,7 @@ pub fn note(rows: &mut [Halfedge], h: i16, s: u16)
     set_entry(&mut rows[k / 3].index, k % 3, s);
 }
 
-// A slot whose row has no name.
+// A slot whose row has no name: a call of the next with nothing known.
 pub fn free_slot(rows: &[Halfedge]) -> usize
     requires long { slots ≤ length rows.now }
     requires room { used slots (seen rows.now) < slots }

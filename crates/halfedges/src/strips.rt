@@ -1,12 +1,11 @@
-// All rows by their strips: the external rows go, and a row moves to another strip.
-ghost use Rattle.std.specs.Prelude.{◌≡◌, ◌≤◌, length};
+// All external rows go at once.
+ghost use Rattle.std.specs.Prelude.{◌≡◌};
 ghost use Rattle.turning.specs.Limits.{max_edge, slots};
-ghost use Rattle.halfedges.specs.View.{seen, written};
+ghost use Rattle.halfedges.specs.View.{seen};
 ghost use Rattle.halfedges.specs.Rows.{strips_of, lines_in, Core};
-ghost use Rattle.halfedges.specs.Homes.{HomesAlone, with_strip};
+ghost use Rattle.halfedges.specs.Homes.{HomesAlone};
 
 use crate::halfedge::{FREE, Halfedge};
-use crate::slots::write;
 use turning::limits::SLOTS;
 
 // Frees every row that is not home, whatever stood in it: then a row is home or holds nothing.
@@ -17,19 +16,12 @@ pub fn drop_external(rows: &mut [Halfedge])
     ensures strips { strips_of (seen rows.new) ≡ strips_of (seen rows.old) }
     ensures alone { HomesAlone slots (seen rows.new) }
 {
-    for i in 0..SLOTS {
-        if rows[i].name == 0 || rows[i].follower == 0 {
-            write(rows, i + 1, FREE);
+    for row in rows[..SLOTS].iter_mut() {
+        if row.name == 0 || row.follower == 0 {
+            *row = Halfedge {
+                index: row.index,
+                ..FREE
+            };
         }
     }
-}
-
-// Moves the row at a slot to another strip.
-pub fn set_strip(rows: &mut [Halfedge], s: usize, strip: u16)
-    requires long { slots ≤ length rows.old }
-    requires low { 1 ≤ s }
-    requires high { s ≤ slots }
-    ensures { seen rows.new ≡ written s (with_strip strip ((seen rows.old).row s)) (seen rows.old) }
-{
-    rows[s - 1].strip = strip;
 }

@@ -1,9 +1,9 @@
 -- The strip of an x by the borders passed, and borders that rise. Assumes nothing.
-use Rattle.std.proofs.Common.{◌≡◌, ℕ, zero, suc, ◌+◌, ◌-◌, ◌<◌, ◌≤◌, Bool, true, false, cond, ◌&&◌, ◌⊎◌, ◌↔◌, List, [], ◌∷◌, length, get_or, drop, ℤ, pos, negsuc, ◌≤ℤ◌, ◌<ℤ◌, sym, refl, ap, ◌∙◌, subst, inl, inr, arith}
+use Rattle.std.proofs.Common.{◌≡◌, ℕ, zero, suc, ◌-◌, ◌<◌, ◌≤◌, Bool, true, false, cond, ◌&&◌, ◌⊎◌, ◌↔◌, List, [], ◌∷◌, length, get_or, ℤ, pos, negsuc, ◌≤ℤ◌, ◌<ℤ◌, sym, refl, ap, ◌∙◌, subst, ap₂, inl, inr, add-one, arith}
 use lib.Signed.{lt_z}
-use Rattle.std.proofs.lemmas.List.{drop_all, drop_more}
+use Rattle.std.specs.List.{list_all, IsAllAdjacentAnswer}
 use Rattle.std.proofs.lemmas.Int.{ints}
-use Rattle.std.proofs.lemmas.Bool.{cond-true, cond-false, and_parts, and_from, and_left, and_right, cases_eq}
+use Rattle.std.proofs.lemmas.Bool.{cond-true, cond-false, both_ways, and_parts, and_from, and_left, and_right, cases_eq}
 use Rattle.turning.specs.Limits.{max_coordinate}
 use Rattle.chart.specs.Points.{within}
 use Rattle.strips.specs.Borders.{rise_after, rising, strip_count, strip_of}
@@ -83,15 +83,41 @@ rise_first (b ∷ bs) = go (within b) refl
     go true e = let above : lt_z (negsuc max_coordinate) b ≡ true = grind (arith, ints) in ap (λ t. (within b && t) && rise_after b bs) above ∙ ap (λ t. (t && true) && rise_after b bs) e ∙ sym (ap (λ t. t && rise_after b bs) e)
     go false e = ap (λ t. (t && lt_z (negsuc max_coordinate) b) && rise_after b bs) e ∙ sym (ap (λ t. t && rise_after b bs) e)
 
-pub rise_more : (last : ℤ) (bs : List ℤ) (i : ℕ) → i < length bs → within (get_or bs i (pos 0)) ≡ true → lt_z last (get_or bs i (pos 0)) ≡ true → rise_after last (drop i bs) ≡ rise_after (get_or bs i (pos 0)) (drop (i + 1) bs)
-rise_more last bs i l a b = ap (rise_after last) (drop_more bs i (pos 0) l) ∙ ap (λ t. (t && lt_z last (get_or bs i (pos 0))) && rise_after (get_or bs i (pos 0)) (drop (i + 1) bs)) a ∙ ap (λ t. t && rise_after (get_or bs i (pos 0)) (drop (i + 1) bs)) b
+-- where each border is below the next, the borders after b rise if all are in range
+rise_up : (b : ℤ) (bs : List ℤ) → ((k : ℕ) (d : ℤ) → suc k < length (b ∷ bs) → true ≡ lt_z (get_or (b ∷ bs) k d) (get_or (b ∷ bs) (suc k) d)) → rise_after b bs ≡ list_all within bs
+rise_up b [] up = refl
+rise_up b (x ∷ bs) up =
+    ap₂ (λ s t. (within x && s) && t) (sym (up 0 b (omega arith))) (rise_up x bs (λ k d l. up (suc k) d (omega arith)))
+    ∙ ap (λ t. t && list_all within bs) (same (within x))
+  where
+    same : (t : Bool) → (t && true) ≡ t
+    same true = refl
+    same false = refl
 
-pub rise_stops : (last : ℤ) (bs : List ℤ) (i : ℕ) → i < length bs → (within (get_or bs i (pos 0)) ≡ false) ⊎ (lt_z last (get_or bs i (pos 0)) ≡ false) → rise_after last (drop i bs) ≡ false
-rise_stops last bs i l (inl a) = ap (rise_after last) (drop_more bs i (pos 0) l) ∙ and_left _ _ (and_left _ _ a)
-rise_stops last bs i l (inr a) = ap (rise_after last) (drop_more bs i (pos 0) l) ∙ and_left _ _ (and_right _ _ a)
+-- where some border is not, they do not
+rise_down : (b : ℤ) (bs : List ℤ) (k : ℕ) → suc k < length (b ∷ bs) → ((d : ℤ) → false ≡ lt_z (get_or (b ∷ bs) k d) (get_or (b ∷ bs) (suc k) d)) → rise_after b bs ≡ false
+rise_down b [] k l e = absurd (omega arith)
+rise_down b (x ∷ bs) zero l e = and_left (within x && lt_z b x) _ (and_right (within x) _ (sym (e b)))
+rise_down b (x ∷ bs) (suc k) l e = and_right (within x && lt_z b x) _ (rise_down x bs k (omega arith) e)
 
-pub rise_end : (last : ℤ) (bs : List ℤ) (i : ℕ) → length bs ≤ i → rise_after last (drop i bs) ≡ true
-rise_end last bs i l = ap (rise_after last) (drop_all i bs l)
+-- nor where one is out of range
+rise_out : (b : ℤ) (bs : List ℤ) → list_all within bs ≡ false → rise_after b bs ≡ false
+rise_out b [] e = absurd (both_ways _ e refl)
+rise_out b (x ∷ bs) e = go (within x) refl e (rise_out x bs)
+  where
+    go : (t : Bool) → within x ≡ t → (t && list_all within bs) ≡ false → (list_all within bs ≡ false → rise_after x bs ≡ false) → ((within x && lt_z b x) && rise_after x bs) ≡ false
+    go true is e later = and_right (within x && lt_z b x) _ (later e)
+    go false is e later = and_left _ _ (and_left (within x) _ is)
+
+pub rising_out : (bs : List ℤ) → list_all within bs ≡ false → rising bs ≡ false
+rising_out bs e = sym (rise_first bs) ∙ rise_out (negsuc max_coordinate) bs e
+
+-- borders in range rise where each is answered to be below the next
+pub rising_by : (bs : List ℤ) (r : Bool) → IsAllAdjacentAnswer (λ x y b. b ≡ lt_z x y) bs r → list_all within bs ≡ true → r ≡ rising bs
+rising_by [] true up all = refl
+rising_by [] false (k, l, e) all = absurd (omega arith)
+rising_by (b ∷ bs) true up all = sym (ap (λ t. within b && t) (rise_up b bs (λ k d l. subst (λ j. true ≡ lt_z (get_or (b ∷ bs) k d) (get_or (b ∷ bs) j d)) (add-one k) (up k d (omega arith)))) ∙ all)
+rising_by (b ∷ bs) false (k, l, e) all = sym (and_right (within b) _ (rise_down b bs k (omega arith) (λ d. subst (λ j. false ≡ lt_z (get_or (b ∷ bs) k d) (get_or (b ∷ bs) j d)) (add-one k) (e d))))
 
 -- ---- a strip has its western border and not its eastern one
 abbrev Western : List ℤ → ℤ → ℕ → Type 0

@@ -19,8 +19,9 @@ use Rattle.laws.proofs.Cleft.{cleave_cuts}
 use Rattle.laws.proofs.Hung.{hang_ends}
 use Rattle.halfedges.specs.declared.halfedge.Halfedge.{Halfedge}
 use Rattle.halfedges.specs.View.{seen}
-use Rattle.halfedges.specs.Rows.{turn_of, points_of, lines_in, used, Blank}
+use Rattle.halfedges.specs.Rows.{points_of, lines_in, used, Blank}
 use Rattle.halfedges.specs.Nothing.{short_lines, nothing_sound}
+use Rattle.halfedges.proofs.Asked.{told_hang, told_cleave}
 use Rattle.halfedges.proofs.Blank.{none_held, blank_lines, blank_core, blank_used, blank_slots, blank_unlinked}
 use Rattle.halfedges.proofs.Counted.{used_within}
 use Rattle.halfedges.proofs.Props.{core_prop}
@@ -48,14 +49,6 @@ kept_sound bs rs p = go (leb slots (length rs)) refl
     go : (b : Bool) → leb slots (length rs) ≡ b → Sound max_edge (lines_in (seen rs))
     go true e = (kept_out bs rs p (leb-true _ _ e)).core.sound
     go false e = subst (Sound max_edge) (sym (short_lines max_edge slots rs e)) (nothing_sound max_edge)
-
--- a sheet that holds an edge has a memory that is long enough
-pub held_long : (rs : List Halfedge) (h : ℤ) → (turn_of (seen rs)).held h ≡ true → slots ≤ length rs
-held_long rs h e = go (leb slots (length rs)) refl
-  where
-    go : (b : Bool) → leb slots (length rs) ≡ b → slots ≤ length rs
-    go true l = leb-true _ _ l
-    go false l = absurd (both_ways _ (ap (λ x. x.turn.held h) (short_lines max_edge slots rs l)) e)
 
 -- a memory that is long enough before a change and after it has all its slots
 pub same_frame : (bs : List ℤ) (rs rs' : List Halfedge) → slots ≤ length rs → Stripped max_edge slots bs rs' → frame_of bs rs' ≡ frame_of bs rs
@@ -158,15 +151,16 @@ pub record Hangable (bs : List ℤ) (rs : List Halfedge) (e : ℕ) (a b : End) :
   pub ends : Ends max_edge (lines_in (seen rs)) e a.point b.point a.corner b.corner
   pub room : slots_taken bs (lines_in (seen rs)) max_edge + slots_between bs a.point b.point ≤ slots
 
-pub hangable : (bs : List ℤ) (rs : List Halfedge) → ∥ Kept bs rs ∥₁ → (e : ℕ) (a b : End) (s : End × End) → may_hang max_edge (lines_in (seen rs)) (fits_of bs rs) e a b ≡ true
+pub hangable : (bs : List ℤ) (rs : List Halfedge) → ∥ Kept bs rs ∥₁ → (e : ℕ) (a b : End) (s : End × End) → (fits : Bool) → true ≡ may_hang max_edge (lines_in (seen rs)) (λ _ _. fits) e a b → fits ≡ fits_of bs rs a.point b.point
     → s.0 ≡ western a b → s.1 ≡ eastern a b → Hangable bs rs e s.0 s.1
-hangable bs rs kept e a b s may is-west is-east =
-    let fits : fits_of bs rs a.point b.point ≡ true = (and_parts _ _ may).1 in
-    let stripped = kept_out bs rs kept (fits_long bs rs a.point b.point fits) in
+hangable bs rs kept e a b s fits asked told is-west is-east =
+    let may = sym (told_hang (lines_in (seen rs)) (fits_of bs rs) e a b fits true asked told) in
+    let free : fits_of bs rs a.point b.point ≡ true = (and_parts _ _ may).1 in
+    let stripped = kept_out bs rs kept (fits_long bs rs a.point b.point free) in
     subst₂ (Hangable bs rs e) (sym is-west) (sym is-east) (record {
       stripped = stripped;
       ends = hang_ends max_edge (lines_in (seen rs)) stripped.core.sound (fits_of bs rs) e a b may;
-      room = either (west a.point b.point) (fits_room bs rs a.point b.point fits);
+      room = either (west a.point b.point) (fits_room bs rs a.point b.point free);
     })
   where
     turn : (t x y s : ℕ) → t + 2 * suc ((x - y) + (y - x)) ≤ s → t + 2 * suc ((y - x) + (x - y)) ≤ s
@@ -182,16 +176,17 @@ pub record Cleavable (bs : List ℤ) (rs : List Halfedge) (e f : ℕ) (p to : Po
   pub cuts : Cuts max_edge (lines_in (seen rs)) e f p to
   pub room : slots_taken bs (lines_in (seen rs)) max_edge + 2 ≤ slots
 
-pub cleavable : (bs : List ℤ) (rs : List Halfedge) → ∥ Kept bs rs ∥₁ → (e f : ℕ) (p to : Point) → may_cleave max_edge (lines_in (seen rs)) (fits_of bs rs) e f p ≡ true
+pub cleavable : (bs : List ℤ) (rs : List Halfedge) → ∥ Kept bs rs ∥₁ → (e f : ℕ) (p to : Point) → (fits : Bool) → true ≡ may_cleave max_edge (lines_in (seen rs)) (λ _ _. fits) e f p → fits ≡ fits_of bs rs p p
     → points_of (seen rs) (neg_ℤ (pos e)) ≡ Some to → Cleavable bs rs e f p to
-cleavable bs rs kept e f p to may ends =
-    let fits : fits_of bs rs p p ≡ true = (and_parts _ _ may).1 in
-    let stripped = kept_out bs rs kept (fits_long bs rs p p fits) in
+cleavable bs rs kept e f p to fits asked told ends =
+    let may = sym (told_cleave (lines_in (seen rs)) (fits_of bs rs) e f p fits true asked told) in
+    let free : fits_of bs rs p p ≡ true = (and_parts _ _ may).1 in
+    let stripped = kept_out bs rs kept (fits_long bs rs p p free) in
     let cuts = cleave_cuts max_edge (lines_in (seen rs)) stripped.core.sound (fits_of bs rs) e f p may in
     record {
       stripped = stripped;
       cuts = subst (Cuts max_edge (lines_in (seen rs)) e f p) (some_same _ _ (sym cuts.1.ends ∙ ends)) cuts.1;
-      room = two (slots_taken bs (lines_in (seen rs)) max_edge) (strip_of bs p.x) slots (fits_room bs rs p p fits);
+      room = two (slots_taken bs (lines_in (seen rs)) max_edge) (strip_of bs p.x) slots (fits_room bs rs p p free);
     }
   where
     some_same : (x y : Point) → ◌≡◌ {A = Option Point} (Some x) (Some y) → x ≡ y
@@ -201,9 +196,10 @@ cleavable bs rs kept e f p to may ends =
     two t x s q = omega arith
 
 -- an edge that may be cleft has an end
-pub ends_somewhere : (bs : List ℤ) (rs : List Halfedge) → ∥ Kept bs rs ∥₁ → (e f : ℕ) (p : Point) → may_cleave max_edge (lines_in (seen rs)) (fits_of bs rs) e f p ≡ true
+pub ends_somewhere : (bs : List ℤ) (rs : List Halfedge) → ∥ Kept bs rs ∥₁ → (e f : ℕ) (p : Point) → (fits : Bool) → true ≡ may_cleave max_edge (lines_in (seen rs)) (λ _ _. fits) e f p → fits ≡ fits_of bs rs p p
     → points_of (seen rs) (neg_ℤ (pos e)) ≡ None → ⊥
-ends_somewhere bs rs kept e f p may none =
+ends_somewhere bs rs kept e f p fits asked told none =
+    let may = sym (told_cleave (lines_in (seen rs)) (fits_of bs rs) e f p fits true asked told) in
     let cuts = cleave_cuts max_edge (lines_in (seen rs)) (kept_sound bs rs kept) (fits_of bs rs) e f p may in
     different cuts.0 (sym none ∙ cuts.1.ends)
   where

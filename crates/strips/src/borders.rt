@@ -7,7 +7,7 @@ ghost use Rattle.strips.specs.Cuts.{listed, border_questions};
 
 use arrayvec::ArrayVec;
 use chart::point::is_within;
-use turning::limits::{MAX_BORDERS, MAX_COORDINATE};
+use turning::limits::MAX_BORDERS;
 use turning::refusal::Refusal;
 
 // They lie in the value itself: a sheet allocates nothing.
@@ -29,7 +29,7 @@ pub(crate) fn copied(borders: &Borders) -> Borders
     copy
 }
 
-// How many strips the borders make.
+// How many strips the borders make. Readers take the list as it is typed, for its bound: of a slice, this sum could go past 16 bits.
 pub fn strip_count(borders: &Borders) -> u16
     ensures count { result ≡ strip_count borders.now.items }
     ensures few { result ≤ max_strips }
@@ -55,15 +55,7 @@ pub fn strip_of(borders: &Borders, x: i32) -> u16
 fn is_rising(borders: &[i32]) -> bool
     ensures { result ≡ rising borders.now }
 {
-    // Every border in range is above this.
-    let mut last = -MAX_COORDINATE - 1;
-    for b in borders {
-        if !is_within(*b) || *b <= last {
-            return false;
-        }
-        last = *b;
-    }
-    true
+    borders.iter().all(|b| is_within(*b)) && borders.is_sorted_by(|a, b| a < b)
 }
 
 // The borders of a list, if a sheet may be cut there.

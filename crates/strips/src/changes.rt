@@ -28,7 +28,7 @@ pub(crate) fn hang_through(rows: &mut Rows, borders: &Borders, edge: u16, start:
     plant_edge(rows.at, edge);
 }
 
-// Takes an edge out. The borders are there for the contract alone.
+// Takes an edge out. The borders are there for the contract alone: a ghost value in their place would be picked from the call's arguments, which would not have them.
 pub(crate) fn lift_through(rows: &mut Rows, _borders: &Borders, edge: u16)
     requires stripped { Stripped max_edge slots _borders.now.items rows.old.at.now }
     requires here { (turn_of (seen rows.old.at.now)).held (pos edge) ≡ true }

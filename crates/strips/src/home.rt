@@ -24,7 +24,7 @@ pub struct Home {
 fn home_between(strip: u16, here: u16, there: u16) -> Result<Home, Refusal>
     ensures { result ≡ asked ((nat_le (min here there) strip && nat_le strip (max here there), NotThere) ∷ []) (record { strip = here; crossed = apart strip here }) }
 {
-    if strip < here.min(there) || strip > here.max(there) {
+    if !(here.min(there)..=here.max(there)).contains(&strip) {
         return Err(Refusal::NotThere);
     }
     Ok(Home {
@@ -41,7 +41,7 @@ impl<'a> Sheet<'a> {
         strip_count(&self.borders)
     }
 
-    // Where the sheet is cut.
+    // Where the sheet is cut. By value: the type says that there are at most 31, which a slice would not, and a caller may change the sheet while it holds them.
     pub fn borders(&self) -> Borders
         ensures { result ≡ self.now.borders }
     {

@@ -12,7 +12,7 @@ ghost use Rattle.strips.specs.Answers.{layout_questions, Laid};
 use crate::borders;
 use crate::borders::Borders;
 use crate::recut::fill;
-use crate::sheet::{Sheet, is_long};
+use crate::sheet::Sheet;
 use crate::taken::slots_needed;
 use chart::Chart;
 use halfedges::halfedge::Rows;
@@ -27,10 +27,9 @@ fn put_chart<C: Chart>(rows: &mut Rows, chart: &C, borders: &Borders)
     ensures length { length rows.new.at.now ≡ length rows.old.at.now }
 {
     chart.placed();
-    if !is_long(rows) {
-        return;
+    if rows.is_long() {
+        fill(rows, chart, borders);
     }
-    fill(rows, chart, borders);
 }
 
 impl<'a> Sheet<'a> {

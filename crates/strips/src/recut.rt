@@ -34,7 +34,7 @@ fn renumber(rows: &mut [Halfedge], borders: &Borders)
     }
 }
 
-// Gives every edge its external rows, by the strips of its two home rows, and goes over the records once. The borders are there for the contract alone.
+// Gives every edge its external rows, by the strips of its two home rows, and goes over the records once. The borders are there for the contract alone: a ghost value in their place would be picked from the call's arguments, which would not have them.
 fn plant_all(rows: &mut [Halfedge], _borders: &Borders)
     requires core { Core max_edge slots rows.old }
     requires alone { HomesAlone slots (seen rows.old) }

@@ -10,7 +10,7 @@ ghost use Rattle.strips.specs.Sheets.{Kept, room_of, sheet_of};
 
 use crate::borders::{Borders, copied, strip_count, strip_of};
 use crate::recut::recut;
-use crate::sheet::{Sheet, is_long};
+use crate::sheet::Sheet;
 use crate::taken::slots_needed;
 use chart::point::is_within;
 use halfedges::halfedge::Rows;
@@ -51,7 +51,7 @@ fn lay_out(rows: &mut Rows, borders: &Borders)
     ensures lines { lines_in (seen rows.new.at.now) ≡ lines_in (seen rows.old.at.now) }
     ensures slots { room_of rows.new.at.now ≡ room_of rows.old.at.now }
 {
-    if is_long(rows) {
+    if rows.is_long() {
         recut(rows, borders);
     }
 }
@@ -61,7 +61,7 @@ impl Sheet<'_> {
     pub(crate) fn slot_count(&self) -> u32
         ensures { result ≡ room_of self.now.rows.at.now }
     {
-        if is_long(&self.rows) { SLOTS as u32 } else { 0 }
+        if self.rows.is_long() { SLOTS as u32 } else { 0 }
     }
 
     // Cuts the sheet at a new border.

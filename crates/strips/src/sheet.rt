@@ -6,7 +6,7 @@ ghost use Rattle.turning.specs.declared.refusal.Refusal.TheVariants.{ShortMemory
 ghost use Rattle.chart.specs.declared.point.Point.{Point};
 ghost use Rattle.chart.specs.Linework.{no_lines};
 ghost use Rattle.halfedges.specs.View.{seen};
-ghost use Rattle.halfedges.specs.Rows.{turn_of, points_of, lines_in, Blank};
+ghost use Rattle.halfedges.specs.Rows.{turn_of, points_of, lines_in};
 ghost use Rattle.strips.specs.Borders.{rising};
 ghost use Rattle.strips.specs.Sheets.{Kept, lawful_of, frame_of, fits_of};
 
@@ -31,24 +31,6 @@ pub struct Sheet<'a> {
     ghost rises: { rising borders.items ≡ true },
 }
 
-// Has a memory enough records?
-pub(crate) fn is_long(rows: &Rows) -> bool
-    ensures { result ≡ nat_le slots (length rows.now.at.now) }
-{
-    rows.at.len() >= SLOTS
-}
-
-// Frees every record of a memory that is long enough; a shorter one, which holds nothing, is left as it is.
-fn free_rows(rows: &mut Rows)
-    ensures freed { slots ≤ length rows.old.at.now → Blank rows.new.at.now }
-    ensures length { length rows.new.at.now ≡ length rows.old.at.now }
-    ensures left { length rows.old.at.now < slots → rows.new.at.now ≡ rows.old.at.now }
-{
-    if is_long(rows) {
-        slots::free_all(rows.at);
-    }
-}
-
 impl<'a> Sheet<'a> {
     // An empty sheet of one strip, whatever the memory held. A memory that is too short is left as it is; `ready` then refuses.
     pub fn new(memory: &'a mut [Halfedge]) -> Sheet<'a>
@@ -57,10 +39,8 @@ impl<'a> Sheet<'a> {
         ensures length { length result.rows.at.now ≡ length memory.old }
         ensures left { length memory.old < slots → result.rows.at.now ≡ memory.old }
     {
-        let mut rows = Rows { at: memory };
-        free_rows(&mut rows);
         Sheet {
-            rows,
+            rows: Rows::new(memory),
             borders: borders::none(),
         }
     }
@@ -72,7 +52,7 @@ impl<'a> Sheet<'a> {
         ensures length { length self.new.rows.at.now ≡ length self.old.rows.at.now }
         ensures left { length self.old.rows.at.now < slots → self.new.rows.at.now ≡ self.old.rows.at.now }
     {
-        free_rows(&mut self.rows);
+        self.rows.clear();
         self.borders = borders::none();
     }
 
@@ -80,17 +60,14 @@ impl<'a> Sheet<'a> {
     pub fn ready(&self) -> Result<(), Refusal>
         ensures { result ≡ asked ((nat_le slots (length self.now.rows.at.now), ShortMemory) ∷ []) tt }
     {
-        if !is_long(&self.rows) {
-            return Err(Refusal::ShortMemory);
-        }
-        Ok(())
+        self.rows.ready()
     }
 
     // Do the slots of an edge between the two points fit?
     fn has_room(&self, p: Point, q: Point) -> bool
         ensures { result ≡ fits_of self.now.borders.items self.now.rows.at.now p q }
     {
-        if !is_long(&self.rows) {
+        if !self.rows.is_long() {
             return false;
         }
         let crossed = strip_of(&self.borders, p.x).abs_diff(strip_of(&self.borders, q.x));
@@ -98,6 +75,7 @@ impl<'a> Sheet<'a> {
     }
 }
 
+// One line each over the lent records, as in a table: why the records have no such impl, and why the two stores share no changes, stands there.
 impl Turning for Sheet<'_> {
     ghost turn = { λ s. turn_of (seen s.rows.at.now) };
 

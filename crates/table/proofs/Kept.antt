@@ -4,7 +4,7 @@ use mathlib.Core.HLevel.{hedberg}
 use mathlib.Core.Logic.{∥∥₁_elim}
 use native.Mathlib.Decide.{ℕ_discrete}
 use Rattle.std.proofs.lemmas.Int.{ints}
-use Rattle.std.proofs.lemmas.Bool.{leb-true, le-leb, cond-true, cond-false, both_ways, and_parts}
+use Rattle.std.proofs.lemmas.Bool.{leb-true, le-leb, cond-true, cond-false, and_parts}
 use Rattle.turning.specs.Limits.{max_edge, slots}
 use Rattle.chart.specs.declared.point.Point.{Point}
 use Rattle.chart.specs.declared.point.End.{End}
@@ -19,6 +19,7 @@ use Rattle.halfedges.specs.declared.halfedge.Halfedge.{Halfedge}
 use Rattle.halfedges.specs.View.{seen}
 use Rattle.halfedges.specs.Rows.{turn_of, points_of, lines_in, used, edge_count, Core, hung_between}
 use Rattle.halfedges.specs.Nothing.{short_lines, nothing_sound}
+use Rattle.halfedges.proofs.Asked.{told_hang, told_cleave}
 use Rattle.halfedges.proofs.EdgeCount.{edge_more, edge_less, held_put}
 use Rattle.halfedges.proofs.Props.{core_prop}
 use Rattle.table.specs.Tables.{Good, Kept, room_of, frame_of, fits_of}
@@ -104,14 +105,6 @@ cleft_good rs rs' good e f p low high new lines core more = record {
     two : (u u' k k' : ℕ) → u ≡ 2 * k → u' ≡ u + 2 → k' ≡ suc k → u' ≡ 2 * k'
     two u u' k k' q r s = omega arith
 
--- a table that holds an edge has a memory that is long enough
-pub held_long : (rs : List Halfedge) (h : ℤ) → (turn_of (seen rs)).held h ≡ true → slots ≤ length rs
-held_long rs h e = go (leb slots (length rs)) refl
-  where
-    go : (b : Bool) → leb slots (length rs) ≡ b → slots ≤ length rs
-    go true l = leb-true _ _ l
-    go false l = absurd (both_ways _ (ap (λ x. x.turn.held h) (short_lines max_edge slots rs l)) e)
-
 -- a memory that is long enough before a change and after it has all its slots
 pub same_frame : (rs rs' : List Halfedge) → slots ≤ length rs → Core max_edge slots rs' → frame_of rs' ≡ frame_of rs
 same_frame rs rs' long after = ap (λ (k : ℕ). record { borders = []; slots = k }) (whole rs' after.long ∙ sym (whole rs long))
@@ -125,15 +118,16 @@ pub record Hangable (rs : List Halfedge) (e : ℕ) (a b : End) : Type 0 where
   pub ends : Ends max_edge (lines_in (seen rs)) e a.point b.point a.corner b.corner
   pub room : used slots (seen rs) + 2 ≤ slots
 
-pub hangable : (rs : List Halfedge) → ∥ Kept rs ∥₁ → (e : ℕ) (a b : End) (s : End × End) → may_hang max_edge (lines_in (seen rs)) (fits_of rs) e a b ≡ true
+pub hangable : (rs : List Halfedge) → ∥ Kept rs ∥₁ → (e : ℕ) (a b : End) (s : End × End) → (fits : Bool) → true ≡ may_hang max_edge (lines_in (seen rs)) (λ _ _. fits) e a b → fits ≡ fits_of rs a.point b.point
     → s.0 ≡ western a b → s.1 ≡ eastern a b → Hangable rs e s.0 s.1
-hangable rs kept e a b s may west east =
-    let fits : fits_of rs a.point b.point ≡ true = (and_parts _ _ may).1 in
-    let good = kept_out rs kept (fits_long rs a.point b.point fits) in
+hangable rs kept e a b s fits asked told west east =
+    let may = sym (told_hang (lines_in (seen rs)) (fits_of rs) e a b fits true asked told) in
+    let free : fits_of rs a.point b.point ≡ true = (and_parts _ _ may).1 in
+    let good = kept_out rs kept (fits_long rs a.point b.point free) in
     subst₂ (Hangable rs e) (sym west) (sym east) (record {
       good = good;
       ends = hang_ends max_edge (lines_in (seen rs)) good.core.sound (fits_of rs) e a b may;
-      room = fits_room rs a.point b.point good fits;
+      room = fits_room rs a.point b.point good free;
     })
 
 pub record Cleavable (rs : List Halfedge) (e f : ℕ) (p to : Point) : Type 0 where
@@ -141,25 +135,27 @@ pub record Cleavable (rs : List Halfedge) (e f : ℕ) (p to : Point) : Type 0 wh
   pub cuts : Cuts max_edge (lines_in (seen rs)) e f p to
   pub room : used slots (seen rs) + 2 ≤ slots
 
-pub cleavable : (rs : List Halfedge) → ∥ Kept rs ∥₁ → (e f : ℕ) (p to : Point) → may_cleave max_edge (lines_in (seen rs)) (fits_of rs) e f p ≡ true
+pub cleavable : (rs : List Halfedge) → ∥ Kept rs ∥₁ → (e f : ℕ) (p to : Point) → (fits : Bool) → true ≡ may_cleave max_edge (lines_in (seen rs)) (λ _ _. fits) e f p → fits ≡ fits_of rs p p
     → points_of (seen rs) (neg_ℤ (pos e)) ≡ Some to → Cleavable rs e f p to
-cleavable rs kept e f p to may ends =
-    let fits : fits_of rs p p ≡ true = (and_parts _ _ may).1 in
-    let good = kept_out rs kept (fits_long rs p p fits) in
+cleavable rs kept e f p to fits asked told ends =
+    let may = sym (told_cleave (lines_in (seen rs)) (fits_of rs) e f p fits true asked told) in
+    let free : fits_of rs p p ≡ true = (and_parts _ _ may).1 in
+    let good = kept_out rs kept (fits_long rs p p free) in
     let cuts = cleave_cuts max_edge (lines_in (seen rs)) good.core.sound (fits_of rs) e f p may in
     record {
       good = good;
       cuts = subst (Cuts max_edge (lines_in (seen rs)) e f p) (some_same _ _ (sym cuts.1.ends ∙ ends)) cuts.1;
-      room = fits_room rs p p good fits;
+      room = fits_room rs p p good free;
     }
   where
     some_same : (x y : Point) → ◌≡◌ {A = Option Point} (Some x) (Some y) → x ≡ y
     some_same x y z = cc
 
 -- an edge that may be cleft has an end
-pub ends_somewhere : (rs : List Halfedge) → ∥ Kept rs ∥₁ → (e f : ℕ) (p : Point) → may_cleave max_edge (lines_in (seen rs)) (fits_of rs) e f p ≡ true
+pub ends_somewhere : (rs : List Halfedge) → ∥ Kept rs ∥₁ → (e f : ℕ) (p : Point) → (fits : Bool) → true ≡ may_cleave max_edge (lines_in (seen rs)) (λ _ _. fits) e f p → fits ≡ fits_of rs p p
     → points_of (seen rs) (neg_ℤ (pos e)) ≡ None → ⊥
-ends_somewhere rs kept e f p may none =
+ends_somewhere rs kept e f p fits asked told none =
+    let may = sym (told_cleave (lines_in (seen rs)) (fits_of rs) e f p fits true asked told) in
     let cuts = cleave_cuts max_edge (lines_in (seen rs)) (kept_sound rs kept) (fits_of rs) e f p may in
     apart cuts.0 (sym none ∙ cuts.1.ends)
   where

@@ -57,11 +57,11 @@ impl<'a> Table<'a> {
     fn has_room(&self) -> bool
         ensures { (p q : Point) → result ≡ fits_of self.now.rows.at.now p q }
     {
-        self.rows.at.len() >= SLOTS && count_edges(self) as usize * 2 + 2 <= SLOTS
+        self.rows.is_long() && count_edges(self) as usize * 2 + 2 <= SLOTS
     }
 }
 
-// One line each over the lent records, as a struct below with its own impls would leave it: a table still has to pass every method on.
+// One line each over the lent records, as in a sheet. The records by themselves are no turning: a trait's laws hold of every value of a type, and of these between changes alone.
 impl Turning for Table<'_> {
     ghost turn = { λ t. turn_of (seen t.rows.at.now) };
 
@@ -90,6 +90,7 @@ impl Chart for Table<'_> {
     fn placed(&self) {}
 }
 
+// A sheet's changes have this shape too; one generic for both would need a trait with the room and the three changes, each with its contract once more.
 impl Store for Table<'_> {
     ghost frame = { λ t. frame_of t.rows.at.now };
 

@@ -21,7 +21,7 @@ impl<'a> Table<'a> {
         chart.placed();
         let edges = count_edges(chart) as usize;
         // A table over a memory that is too short has no slots, and holds nothing: so it has what an empty chart has.
-        if self.rows.at.len() < SLOTS {
+        if !self.rows.is_long() {
             return edges == 0;
         }
         if 2 * edges > SLOTS {

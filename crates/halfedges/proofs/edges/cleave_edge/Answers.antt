@@ -39,7 +39,6 @@ unhook-requires c =
     let F-is = minus_name a.east (small _ p.cuts.high) in
     let first : Brought slots a.span.east (neg_ℤ (pos a.east)) (Some (neg_ℤ (pos a.edge))) a.to (seen rs) (seen rs₁) = subst₂ (λ x y. Brought slots a.span.east x (Some y) a.to (seen rs) (seen rs₁)) F-is E-is c.bring.ensures in
     record {
-      long = omega arith;
       indexed = first.indexed;
       rotation = rotation₁ rs p.core a.edge a.east a.at a.to p.cuts p.room a.span.west a.span.east rs₁ first;
       here = ap (turn_of (seen rs₁)).held E-is ∙ held₁ rs p.core a.edge a.east a.at a.to p.cuts p.room a.span.west a.span.east rs₁ first;

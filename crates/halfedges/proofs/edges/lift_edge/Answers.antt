@@ -18,7 +18,6 @@ unhook-requires c =
     let e = c.args.edge in
     let p = plus_name e (held_small _ c.requires.core.sound.0 e c.requires.here) in
     record {
-      long = c.requires.core.long;
       indexed = c.requires.core.indexed;
       rotation = rotation₀ rs c.requires.core e c.requires.here;
       here = ap (turn_of (seen rs)).held p ∙ c.requires.here;
@@ -32,7 +31,6 @@ unhook-requires-2 c =
     let l = held_small _ c.requires.core.sound.0 e c.requires.here in
     let first : seen rs₁ ≡ unhooked (pos e) (seen rs) = c.unhook.ensures ∙ ap (λ z. unhooked z (seen rs)) (plus_name e l) in
     record {
-      long = omega arith;
       indexed = indexed₁ rs c.requires.core e c.requires.here rs₁ first;
       rotation = rotation₁ rs c.requires.core e c.requires.here rs₁ first;
       here = ap (turn_of (seen rs₁)).held (minus_name e l) ∙ here₁ rs c.requires.core e c.requires.here rs₁ first;

@@ -1,51 +1,21 @@
-use Rattle.std.proofs.Common.{◌≡◌, ◌+◌, ◌<◌, true, false, length, get_or, drop, ℤ, pos, sym, ap, ◌∙◌, inl, inr, arith, w32, SFits, rules}
-use lib.Signed.{lt_z, le_z}
-use Rattle.std.proofs.lemmas.Int.{ints, to_z-of_z}
+use Rattle.std.proofs.Common.{◌≡◌, sym, ◌∙◌, rules, tests}
+use lib.Signed.{lt_z}
+use Rattle.std.specs.List.{list_all}
+use Rattle.std.proofs.lemmas.Fn.{always_returns_same}
+use Rattle.std.proofs.lemmas.Iterator.{YieldsList-from_slice}
+use Rattle.std.proofs.lemmas.Iterator.Search.{all_from_yields_List}
 use Rattle.chart.specs.Points.{within}
-use Rattle.strips.specs.Borders.{rise_after, rising}
-use Rattle.strips.proofs.Cutting.{rise_first, rise_more, rise_stops, rise_end}
+use Rattle.strips.proofs.Cutting.{rising_out, rising_by}
 use Rattle.strips.proofs.borders.is_rising.Goals as goal
-use Rattle.strips.proofs.borders.is_rising.Goals.{then-not-is_within-via-then-not-is_within, then-not-is_within-via-else-not-is_within+then-b-last}
 
-above : (a b : ℤ) → le_z b a ≡ false → lt_z a b ≡ true
-above a b e = grind (arith, ints)
-
-not_above : (a b : ℤ) → le_z b a ≡ true → lt_z a b ≡ false
-not_above a b e = grind (arith, ints)
-
-pub loop-b-init : goal.loop-b-init
-loop-b-init c = sym (rise_first c.args.borders.now)
-
-pub returns-then-not-is_within : goal.returns-then-not-is_within
-returns-then-not-is_within c =
+pub returns-then-all : goal.returns-then-all
+returns-then-all c =
     let bs = c.args.borders.now in
-    let i = c.loop-b.b-index in
-    let last = c.loop-b.last in
-    let inv : rising bs ≡ rise_after last (drop i bs) = c.loop-b.invariant ∙ ap (λ z. rise_after z (drop i bs)) c.loop-b.last-is in
-    let f : SFits w32 (get_or bs i (pos 0)) = search rules in
-    let l : i < length bs = c.loop-b-test.true in
-    let inside : c.is_within.result ≡ within (get_or bs i (pos 0)) = simp to_z-of_z at c.is_within.ensures in
-    elim c.then-not-is_within.branch [
-      | then-not-is_within-via-then-not-is_within w ↦ sym (inv ∙ rise_stops last bs i l (inl (sym inside ∙ w.if-not-is_within.true)))
-      | then-not-is_within-via-else-not-is_within+then-b-last w ↦ sym (inv ∙ rise_stops last bs i l (inr (not_above last (get_or bs i (pos 0)) (ap (le_z _) (sym c.loop-b.last-is) ∙ simp to_z-of_z at w.if-b-last.true))))
-    ]
+    let all : c.all.result ≡ list_all within bs = all_from_yields_List within _ _ c.all.result c.all.ensures.ran (YieldsList-from_slice bs c.iter.ensures.rest) (λ x b q k. search (rules, tests)) in
+    rising_by bs c.is_sorted_by.result (c.is_sorted_by.ensures.cases lt_z (always_returns_same _ _ _ (λ a r q k. (search (rules, tests), search rules)))) (sym all ∙ c.if-all.true)
 
-pub loop-b-preserved : goal.loop-b-preserved
-loop-b-preserved c =
+pub returns-else-all : goal.returns-else-all
+returns-else-all c =
     let bs = c.args.borders.now in
-    let i = c.loop-b.b-index in
-    let last = c.loop-b.last in
-    let inv : rising bs ≡ rise_after last (drop i bs) = c.loop-b.invariant ∙ ap (λ z. rise_after z (drop i bs)) c.loop-b.last-is in
-    let f : SFits w32 (get_or bs i (pos 0)) = search rules in
-    let inside : true ≡ within (get_or bs i (pos 0)) = simp to_z-of_z at c.if-not-is_within.ensures in
-    let up : le_z (get_or bs i (pos 0)) last ≡ false = ap (le_z _) (sym c.loop-b.last-is) ∙ simp to_z-of_z at c.if-b-last.false in
-    let more : rising bs ≡ rise_after (get_or bs i (pos 0)) (drop (i + 1) bs) = inv ∙ rise_more last bs i c.loop-b-test.true (sym inside) (above last (get_or bs i (pos 0)) up) in
-    simp to_z-of_z more
-
-pub returns : goal.returns
-returns c =
-    let bs = c.args.borders.now in
-    let i = c.loop-b.b-index in
-    let last = c.loop-b.last in
-    let inv : rising bs ≡ rise_after last (drop i bs) = c.loop-b.invariant ∙ ap (λ z. rise_after z (drop i bs)) c.loop-b.last-is in
-    sym (inv ∙ rise_end last bs i c.loop-b-test.false)
+    let all : c.all.result ≡ list_all within bs = all_from_yields_List within _ _ c.all.result c.all.ensures.ran (YieldsList-from_slice bs c.iter.ensures.rest) (λ x b q k. search (rules, tests)) in
+    c.if-all.false ∙ sym (rising_out bs (sym all ∙ c.if-all.false))

@@ -1,19 +1,18 @@
-use Rattle.std.proofs.Common.{◌≡◌, ℕ, suc, ◌+◌, ◌-◌, ◌<◌, ◌≤◌, true, List, get_or, drop, ◌++◌, length, set, ℤ, pos, sym, refl, ap, ◌∙◌, subst, ap₂, add-one, arith, w16, w32, SFits, of_z, rules, below_more}
-use Rattle.std.proofs.lemmas.List.{take-append-drop, length-take, length-append, length-set, set-append_left, set-get_or}
-use Rattle.std.proofs.Math.ListN.{get_or-append}
+use Rattle.std.proofs.Common.{◌≡◌, ℕ, suc, ◌+◌, ◌-◌, ◌<◌, ◌≤◌, true, List, get_or, drop, ◌++◌, length, set, ℤ, pos, sym, refl, ap, ◌∙◌, subst, arith, w16, w32, SFits, of_z, rules, below_more}
+use Rattle.std.proofs.lemmas.List.{take-append-drop, length-take, set-get_or}
 use Rattle.std.proofs.lemmas.Int.{to_z-of_z}
 use Rattle.std.proofs.lemmas.Bool.{leb-true}
 use Rattle.turning.specs.Limits.{max_edge, slots}
 use Rattle.turning.proofs.Names.{same_name}
 use Rattle.laws.proofs.Equal.{tell}
 use Rattle.halfedges.specs.declared.halfedge.Halfedge.{Halfedge}
-use Rattle.halfedges.specs.View.{none, seen, written}
+use Rattle.halfedges.specs.View.{none, bare, seen, written}
 use Rattle.halfedges.specs.Rows.{home, Indexed, lines_in, Core}
-use Rattle.halfedges.specs.Homes.{HomesAlone, with_strip}
-use Rattle.halfedges.proofs.Alone.{held_home, named_home, moved_lines, moved_indexed, moved_alone, moved_here, moved_there}
+use Rattle.halfedges.specs.Homes.{HomesAlone}
+use Rattle.halfedges.proofs.Alone.{with_strip, held_home, named_home, moved_lines, moved_indexed, moved_alone, moved_here, moved_there}
 use Rattle.halfedges.proofs.Beside.{core_same}
 use Rattle.halfedges.proofs.Meaning.{held_slot}
-use Rattle.halfedges.proofs.Views.{row_is, write_view}
+use Rattle.halfedges.proofs.Views.{first_is, first_written, first_length}
 use Rattle.strips.specs.Borders.{strip_of}
 use Rattle.strips.proofs.recut.renumber.Goals as goal
 use Rattle.strips.proofs.recut.renumber.Goals.{then-row-ne0, else-row-ne0}
@@ -27,10 +26,9 @@ Renumbered bs rs₀ i rs = Core max_edge slots rs × (lines_in (seen rs) ≡ lin
 
 -- the next row, which is home, has moved
 moved : (bs : List ℤ) (rs₀ : List Halfedge) (i : ℕ) (rs rs' : List Halfedge) (strip : ℕ) → i < slots → Renumbered bs rs₀ i rs → home ((seen rs).row (suc i)) ≡ true → strip ≡ strip_of bs ((seen rs).row (suc i)).x
-    → seen rs' ≡ written (i + 1) (with_strip strip ((seen rs).row (i + 1))) (seen rs) → slots ≤ length rs' → Renumbered bs rs₀ (i + 1) rs'
-moved bs rs₀ i rs rs' strip l past here is view long =
+    → seen rs' ≡ written (suc i) (with_strip strip ((seen rs).row (suc i))) (seen rs) → slots ≤ length rs' → Renumbered bs rs₀ (i + 1) rs'
+moved bs rs₀ i rs rs' strip l past here is e long =
     let v = seen rs in
-    let e : seen rs' ≡ written (suc i) (with_strip strip (v.row (suc i))) v = view ∙ ap (λ s. written s (with_strip strip (v.row s)) v) (add-one i) in
     let lines : lines_in (seen rs') ≡ lines_in v = ap lines_in e ∙ moved_lines slots v (suc i) strip in (
       core_same max_edge slots rs rs' past.0 long (subst (Indexed slots) (sym e) (moved_indexed slots v (suc i) strip past.0.indexed)) lines,
       lines ∙ past.1,
@@ -52,28 +50,6 @@ loop-row-init c =
 pub offset_bounds-row-items-row-index : goal.offset_bounds-row-items-row-index
 offset_bounds-row-items-row-index c = let few = length-take slots c.args.rows.now in let l = c.loop-row-test.true in omega (arith, few, l)
 
--- the rows from `slots` on are left
-module _ (items rest : List Halfedge) (i : ℕ) (l : i < length items) where
-  first : get_or (items ++ rest) i none ≡ get_or items i none
-  first = get_or-append items rest none i l
-
-  within : i < length (items ++ rest)
-  within = let n = length-append items rest in omega arith
-
-  turned : (items' : List Halfedge) (strip : ℕ) → items' ≡ set items i (with_strip strip (get_or items i none)) → items' ++ rest ≡ set (items ++ rest) i (with_strip strip (get_or (items ++ rest) i none))
-  turned items' strip e = ap (λ xs. xs ++ rest) e ∙ sym (set-append_left items rest i _ l) ∙ ap (λ y. set (items ++ rest) i (with_strip strip y)) (sym first)
-
-  view_turned : (items' : List Halfedge) (strip : ℕ) → items' ≡ set items i (with_strip strip (get_or items i none))
-      → seen (items' ++ rest) ≡ written (i + 1) (with_strip strip ((seen (items ++ rest)).row (i + 1))) (seen (items ++ rest))
-  view_turned items' strip e =
-      let v = seen (items ++ rest) in
-      let r : Halfedge = with_strip strip (get_or (items ++ rest) i none) in
-      ap seen (turned items' strip e) ∙ write_view max_edge slots (items ++ rest) i r within refl
-      ∙ ap₂ (λ k x. written k (with_strip strip x) v) (sym (add-one i)) (sym (row_is max_edge slots (items ++ rest) i) ∙ ap v.row (sym (add-one i)))
-
-  long_turned : (items' : List Halfedge) (strip : ℕ) → items' ≡ set items i (with_strip strip (get_or items i none)) → slots ≤ length (items ++ rest) → slots ≤ length (items' ++ rest)
-  long_turned items' strip e long = subst (λ n. slots ≤ n) (sym (ap length (turned items' strip e) ∙ length-set (items ++ rest) i _)) long
-
 pub loop-row-preserved : goal.loop-row-preserved
 loop-row-preserved c =
     let bs = c.args.borders.now.items in
@@ -89,8 +65,9 @@ loop-row-preserved c =
     let l : i < length items = omega arith in
     let under : i < slots = omega arith in
     let v = seen (items ++ rest) in
-    let name_is : (v.row (suc i)).name ≡ r.name = ap (λ y. y.name) (row_is max_edge slots (items ++ rest) i) ∙ ap (λ y. y.name) (first items rest i l) in
-    let x_is : (v.row (suc i)).x ≡ r.x = ap (λ y. y.x) (row_is max_edge slots (items ++ rest) i) ∙ ap (λ y. y.x) (first items rest i l) in
+    let row : v.row (suc i) ≡ bare r = first_is max_edge slots items rest i l in
+    let name_is : (v.row (suc i)).name ≡ r.name = ap (λ y. y.name) row in
+    let x_is : (v.row (suc i)).x ≡ r.x = ap (λ y. y.x) row in
     let fn : SFits w16 r.name = search rules in
     elim c.if-row-ne0.branch [
       | then-row-ne0 w ↦
@@ -99,7 +76,10 @@ loop-row-preserved c =
           let fx : SFits w32 r.x = search rules in
           let strip = w.strip_of-row.result in
           let is : strip ≡ strip_of bs (v.row (suc i)).x = w.strip_of-row.ensures ∙ ap (strip_of bs) (to_z-of_z w32 r.x fx ∙ sym x_is) in
-          moved bs rs₀ i (items ++ rest) (c.if-row-ne0.row-items ++ rest) strip under past here is (view_turned items rest i l c.if-row-ne0.row-items strip w.row-items-is) (long_turned items rest i l c.if-row-ne0.row-items strip w.row-items-is past.0.long)
+          let put : c.if-row-ne0.row-items ≡ set items i (with_strip strip r) = w.row-items-is in
+          let view = ap (λ xs. seen (xs ++ rest)) put ∙ first_written max_edge slots items rest i l (with_strip strip r) refl ∙ ap (λ y. written (suc i) (with_strip strip y) v) (sym row) in
+          let long = subst (λ n. slots ≤ n) (sym (ap (λ xs. length (xs ++ rest)) put ∙ first_length max_edge slots items rest i l (with_strip strip r))) past.0.long in
+          moved bs rs₀ i (items ++ rest) (c.if-row-ne0.row-items ++ rest) strip under past here is view long
       | else-row-ne0 w ↦
           let free : (v.row (suc i)).name ≡ pos 0 = name_is ∙ same_name r.name (pos 0) fn (search rules) w.if-row-ne0.false in
           let back : c.if-row-ne0.row-items ≡ set items i r = w.row-items-is in

@@ -1,5 +1,5 @@
 use Rattle.std.proofs.Common.{◌≡◌, ℕ, ◌*◌, Bool, false, cond, eqb, leb, length, sym, refl, ap, ◌∙◌, arith}
-use Rattle.std.proofs.lemmas.Bool.{cond-false, eqb-true, lt-leb}
+use Rattle.std.proofs.lemmas.Bool.{cond-false, eqb-true}
 use Rattle.std.proofs.lemmas.Bool.Decides.{eqb_tells, leb_tells}
 use Rattle.turning.specs.Limits.{max_edge, slots}
 use Rattle.chart.specs.Linework.{lines_of}
@@ -16,13 +16,13 @@ told_short r k cap b e short = told ∙ sym (ap (leb (2 * k)) (cond-false b cap 
     told : eqb r 0 ≡ leb (2 * k) 0
     told = grind (arith, eqb_tells r 0, leb_tells (2 * k) 0)
 
-pub returns-then-self-lt-SLOTS : goal.returns-then-self-lt-SLOTS
-returns-then-self-lt-SLOTS g c =
+pub returns-then-not-is_long : goal.returns-then-not-is_long
+returns-then-not-is_long g c =
     let rs = c.args.self.now.rows.at.now in
     let chart = c.args.chart.now in
     let lines = lines_of g.C.Turning.turn g.C.Chart.points chart in
     let count = c.count_edges-edges in
-    let short : leb slots (length rs) ≡ false = lt-leb slots (length rs) c.if-self-lt-SLOTS.true in
+    let short : leb slots (length rs) ≡ false = sym c.if-not-is_long.ensures in
     record {
       told = told_short count.result (edge_count max_edge lines.turn) slots (leb slots (length rs)) count.ensures short;
       taken = λ t. short_lines max_edge slots rs short ∙ sym (empty_lines max_edge lines (g.C.Turning.lawful chart) c.placed.ensures (sym count.ensures ∙ eqb-true count.result 0 t));

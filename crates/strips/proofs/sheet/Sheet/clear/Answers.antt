@@ -5,10 +5,10 @@ use Rattle.strips.proofs.sheet.Sheet.clear.Goals as goal
 
 pub invariant_of-self : goal.invariant_of-self
 invariant_of-self c =
-    let e = c.free_rows.ensures in
-    record { ok = ∣ freed_kept _ c.free_rows.new.rows.at.now e.length e.freed c.none-self.result.items ∣₁; rises = ap rising c.none-self.ensures }
+    let e = c.clear.ensures in
+    record { ok = ∣ freed_kept _ c.clear.new.self.at.now e.length e.freed c.none-self.result.items ∣₁; rises = ap rising c.none-self.ensures }
 
-pub returns : goal.returns
-returns c =
-    let e = c.free_rows.ensures in
-    record { empty = freed_lines _ c.free_rows.new.rows.at.now e.length e.freed; uncut = c.none-self.ensures; length = e.length; left = e.left }
+pub returns-clause-empty : goal.returns-clause-empty
+returns-clause-empty c =
+    let e = c.clear.ensures in
+    freed_lines _ c.clear.new.self.at.now e.length e.freed

@@ -5,10 +5,10 @@ use Rattle.strips.proofs.sheet.Sheet.new.Goals as goal
 
 pub invariant_of-result : goal.invariant_of-result
 invariant_of-result c =
-    let e = c.free_rows.ensures in
-    record { ok = ∣ freed_kept _ c.free_rows.new.rows.at.now e.length e.freed c.none.result.items ∣₁; rises = ap rising c.none.ensures }
+    let e = c.new.ensures in
+    record { ok = ∣ freed_kept _ c.new.result.at.now e.length e.freed c.none.result.items ∣₁; rises = ap rising c.none.ensures }
 
-pub returns : goal.returns
-returns c =
-    let e = c.free_rows.ensures in
-    record { empty = freed_lines _ c.free_rows.new.rows.at.now e.length e.freed; uncut = c.none.ensures; length = e.length; left = e.left }
+pub returns-clause-empty : goal.returns-clause-empty
+returns-clause-empty c =
+    let e = c.new.ensures in
+    freed_lines _ c.new.result.at.now e.length e.freed

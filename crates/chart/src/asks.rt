@@ -1,7 +1,7 @@
 // What a chart is asked before it is changed, for every chart alike.
 ghost use Rattle.std.specs.Prelude.{◌≡◌, ◌≤◌, Bool, true, false, not, ◌&&◌, ℤ, pos, neg_ℤ, Option};
 ghost use Rattle.turning.specs.Limits.{max_edge};
-ghost use Rattle.chart.specs.Linework.{lines_of};
+ghost use Rattle.chart.specs.Bounds.{lines};
 ghost use Rattle.chart.specs.Changes.{numbered, western, eastern, joins_at, may_hang, may_cleave};
 
 use crate::Chart;
@@ -59,7 +59,7 @@ pub fn west_to_east(a: End, b: End) -> (End, End)
 
 // Does the corner, if one is given, start at the point? Is the point on no vertex, if none is?
 pub fn joins_at<C: Chart>(chart: &C, end: End) -> bool
-    ensures { result ≡ joins_at max_edge (lines_of C.Turning.turn C.Chart.points chart.now) end.point end.corner }
+    ensures { result ≡ joins_at max_edge (lines C.Chart chart.now) end.point end.corner }
 {
     match end.corner {
         None => !chart.is_vertex(end.point),
@@ -69,7 +69,7 @@ pub fn joins_at<C: Chart>(chart: &C, end: End) -> bool
 
 // May the edge hang between the two ends, where `fits` says whether their points fit?
 pub fn may_hang<C: Chart>(chart: &C, edge: u16, a: End, b: End, fits: bool) -> bool
-    ensures { result ≡ may_hang max_edge (lines_of C.Turning.turn C.Chart.points chart.now) (λ _ _. fits) edge a b }
+    ensures { result ≡ may_hang max_edge (lines C.Chart chart.now) (λ _ _. fits) edge a b }
 {
     is_number(edge)
         && !holds_edge(chart, edge)
@@ -83,7 +83,7 @@ pub fn may_hang<C: Chart>(chart: &C, edge: u16, a: End, b: End, fits: bool) -> b
 
 // May the edge be cleft at the point, its eastern part a new edge, where `fits` says whether the point fits?
 pub fn may_cleave<C: Chart>(chart: &C, edge: u16, east: u16, at: Point, fits: bool) -> bool
-    ensures { result ≡ may_cleave max_edge (lines_of C.Turning.turn C.Chart.points chart.now) (λ _ _. fits) edge east at }
+    ensures { result ≡ may_cleave max_edge (lines C.Chart chart.now) (λ _ _. fits) edge east at }
 {
     holds_edge(chart, edge)
         && is_number(east)

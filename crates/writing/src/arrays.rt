@@ -2,8 +2,8 @@
 ghost use Rattle.std.specs.Prelude.{◌≡◌, ◌+◌, ◌*◌, ◌≤◌, true, map, length, ℤ};
 ghost use Rattle.std.specs.List.{flat_map};
 ghost use Rattle.turning.specs.Limits.{max_edge, line_for, marks_for};
+ghost use Rattle.chart.specs.Bounds.{lines};
 ghost use Rattle.flat.specs.Orbits.{◌∈◌};
-ghost use Rattle.chart.specs.Linework.{lines_of};
 ghost use Rattle.search.specs.Marks.{Within, place as name_place};
 ghost use Rattle.writing.specs.Written.{u16_bytes, i16_bytes, i32_bytes, names_in, follower_slot, start_of, points_in, strip_bytes};
 ghost use Rattle.writing.specs.Gathers.{Slotted};
@@ -21,7 +21,7 @@ const ORIGIN: Point = Point { x: 0, y: 0 };
 
 // The point where a halfedge starts, or the origin where it starts nowhere.
 fn start_of<C: Chart>(chart: &C, h: i16) -> Point
-    ensures { result ≡ start_of (lines_of C.Turning.turn C.Chart.points chart.now) h }
+    ensures { result ≡ start_of (lines C.Chart chart.now) h }
 {
     chart.point(h).unwrap_or(ORIGIN)
 }
@@ -48,10 +48,10 @@ fn note_slots(names: &[i16], slots: &mut [u16])
 
 // The slot that follows that of h, or none where h starts in another strip.
 fn follower_slot<C: Chart>(chart: &C, borders: &Borders, strip: u16, h: i16, slots: &[u16]) -> u16
-    requires slotted { Slotted max_edge (names_in max_edge borders.now.items (lines_of C.Turning.turn C.Chart.points chart.now) strip) slots.now }
+    requires slotted { Slotted max_edge (names_in max_edge borders.now.items (lines C.Chart chart.now) strip) slots.now }
     requires long { length slots.now ≡ marks_for max_edge }
     requires held { (C.Turning.turn chart.now).held h ≡ true }
-    ensures { result ≡ follower_slot max_edge borders.now.items (lines_of C.Turning.turn C.Chart.points chart.now) strip h }
+    ensures { result ≡ follower_slot max_edge borders.now.items (lines C.Chart chart.now) strip h }
 {
     chart.placed();
     if !starts_in(chart, borders, strip, h) {
@@ -83,15 +83,15 @@ fn write_followers<C: Chart>(
     slots: &[u16],
 )
     requires long { (length part.old ≡ 2 * length names.now) × (length slots.now ≡ marks_for max_edge) }
-    requires names { names.now ≡ names_in max_edge borders.now.items (lines_of C.Turning.turn C.Chart.points chart.now) strip }
+    requires names { names.now ≡ names_in max_edge borders.now.items (lines C.Chart chart.now) strip }
     requires slots { Slotted max_edge names.now slots.now }
-    ensures { part.new ≡ flat_map (λ h. u16_bytes (follower_slot max_edge borders.now.items (lines_of C.Turning.turn C.Chart.points chart.now) strip h)) names.now }
+    ensures { part.new ≡ flat_map (λ h. u16_bytes (follower_slot max_edge borders.now.items (lines C.Chart chart.now) strip h)) names.now }
 {
     write_each(part, names, 2, |h: i16|
-        requires slotted { Slotted max_edge (names_in max_edge borders.now.items (lines_of C.Turning.turn C.Chart.points chart.now) strip) slots.now }
+        requires slotted { Slotted max_edge (names_in max_edge borders.now.items (lines C.Chart chart.now) strip) slots.now }
         requires long { length slots.now ≡ marks_for max_edge }
         requires held { (C.Turning.turn chart.now).held h ≡ true }
-        ensures { result ≡ u16_bytes (follower_slot max_edge borders.entry.now.items (lines_of C.Turning.turn C.Chart.points chart.entry.now) strip h) }
+        ensures { result ≡ u16_bytes (follower_slot max_edge borders.entry.now.items (lines C.Chart chart.entry.now) strip h) }
     {
         follower_slot(chart, borders, strip, h, slots).to_le_bytes()
     });
@@ -106,11 +106,11 @@ fn write_arrays<C: Chart>(
     names: &[i16],
     firsts: &[i16],
 )
-    requires names { names.now ≡ names_in max_edge borders.now.items (lines_of C.Turning.turn C.Chart.points chart.now) strip }
-    requires firsts { map (start_of (lines_of C.Turning.turn C.Chart.points chart.now)) firsts.now ≡ points_in max_edge borders.now.items (lines_of C.Turning.turn C.Chart.points chart.now) strip }
+    requires names { names.now ≡ names_in max_edge borders.now.items (lines C.Chart chart.now) strip }
+    requires firsts { map (start_of (lines C.Chart chart.now)) firsts.now ≡ points_in max_edge borders.now.items (lines C.Chart chart.now) strip }
     requires few { length names.now ≤ line_for max_edge }
     requires long { length part.old ≡ 4 * length names.now + 8 * length firsts.now }
-    ensures { part.new ≡ strip_bytes max_edge borders.now.items (lines_of C.Turning.turn C.Chart.points chart.now) strip }
+    ensures { part.new ≡ strip_bytes max_edge borders.now.items (lines C.Chart chart.now) strip }
 {
     let mut slots = [0; MARK_BYTES];
     note_slots(names, &mut slots);
@@ -128,12 +128,12 @@ fn write_arrays<C: Chart>(
         &slots,
     );
     write_each(&mut part[xs..ys], firsts, 4, |h: i16|
-        ensures { result ≡ i32_bytes (start_of (lines_of C.Turning.turn C.Chart.points chart.entry.now) h).x }
+        ensures { result ≡ i32_bytes (start_of (lines C.Chart chart.entry.now) h).x }
     {
         start_of(chart, h).x.to_le_bytes()
     });
     write_each(&mut part[ys..end], firsts, 4, |h: i16|
-        ensures { result ≡ i32_bytes (start_of (lines_of C.Turning.turn C.Chart.points chart.entry.now) h).y }
+        ensures { result ≡ i32_bytes (start_of (lines C.Chart chart.entry.now) h).y }
     {
         start_of(chart, h).y.to_le_bytes()
     });
@@ -141,8 +141,8 @@ fn write_arrays<C: Chart>(
 
 // Writes the arrays of one strip.
 pub(crate) fn write_strip<C: Chart>(part: &mut [u8], chart: &C, borders: &Borders, strip: u16)
-    requires { length part.old ≡ length (strip_bytes max_edge borders.now.items (lines_of C.Turning.turn C.Chart.points chart.now) strip) }
-    ensures { part.new ≡ strip_bytes max_edge borders.now.items (lines_of C.Turning.turn C.Chart.points chart.now) strip }
+    requires { length part.old ≡ length (strip_bytes max_edge borders.now.items (lines C.Chart chart.now) strip) }
+    ensures { part.new ≡ strip_bytes max_edge borders.now.items (lines C.Chart chart.now) strip }
 {
     let mut names = [0; LINE_NAMES];
     let mut firsts = [0; LINE_NAMES];

@@ -1,7 +1,7 @@
 // What one strip has: the names of its slots, and its vertices.
 ghost use Rattle.std.specs.Prelude.{◌≡◌, ◌≤◌, map, length, take, pos};
 ghost use Rattle.turning.specs.Limits.{max_edge, line_for};
-ghost use Rattle.chart.specs.Linework.{lines_of};
+ghost use Rattle.chart.specs.Bounds.{lines};
 ghost use Rattle.search.specs.Marks.{Clean};
 ghost use Rattle.strips.specs.Borders.{runs_through};
 ghost use Rattle.writing.specs.Written.{names_in, points_in, starts_in, start_of};
@@ -19,7 +19,7 @@ use turning::limits::{LINE_NAMES, MARK_BYTES, MAX_EDGE};
 
 // Does the edge run through the strip?
 fn runs_through<C: Chart>(chart: &C, borders: &Borders, strip: u16, edge: u16) -> bool
-    ensures { result ≡ runs_through borders.now.items (lines_of C.Turning.turn C.Chart.points chart.now) strip (pos edge) }
+    ensures { result ≡ runs_through borders.now.items (lines C.Chart chart.now) strip (pos edge) }
 {
     if !holds_edge(chart, edge) {
         return false;
@@ -31,7 +31,7 @@ fn runs_through<C: Chart>(chart: &C, borders: &Borders, strip: u16, edge: u16) -
 
 // Does the halfedge start in the strip?
 pub(crate) fn starts_in<C: Chart>(chart: &C, borders: &Borders, strip: u16, h: i16) -> bool
-    ensures { result ≡ starts_in borders.now.items (lines_of C.Turning.turn C.Chart.points chart.now) strip h }
+    ensures { result ≡ starts_in borders.now.items (lines C.Chart chart.now) strip h }
 {
     strip_at(borders, chart.point(h)) == strip
 }
@@ -39,7 +39,7 @@ pub(crate) fn starts_in<C: Chart>(chart: &C, borders: &Borders, strip: u16, h: i
 // Puts the names of the strip into the list, from its start; answers how many they are.
 fn collect_names<C: Chart>(chart: &C, borders: &Borders, strip: u16, names: &mut [i16]) -> u16
     requires { length names.old ≡ line_for max_edge }
-    ensures named { take result names.new ≡ names_in max_edge borders.now.items (lines_of C.Turning.turn C.Chart.points chart.now) strip }
+    ensures named { take result names.new ≡ names_in max_edge borders.now.items (lines C.Chart chart.now) strip }
     ensures few { result ≤ line_for max_edge }
 {
     let mut count: u16 = 0;
@@ -63,10 +63,10 @@ fn collect_firsts<C: Chart>(
     marks: &mut Marks,
     firsts: &mut [i16],
 ) -> u16
-    requires names { names.now ≡ names_in max_edge borders.now.items (lines_of C.Turning.turn C.Chart.points chart.now) strip }
+    requires names { names.now ≡ names_in max_edge borders.now.items (lines C.Chart chart.now) strip }
     requires marks { Clean marks.old }
     requires firsts { (length firsts.old ≡ line_for max_edge) × (length names.now ≤ line_for max_edge) }
-    ensures started { map (start_of (lines_of C.Turning.turn C.Chart.points chart.now)) (take result firsts.new) ≡ points_in max_edge borders.now.items (lines_of C.Turning.turn C.Chart.points chart.now) strip }
+    ensures started { map (start_of (lines C.Chart chart.now)) (take result firsts.new) ≡ points_in max_edge borders.now.items (lines C.Chart chart.now) strip }
     ensures few { result ≤ length names.now }
 {
     chart.placed();
@@ -90,7 +90,7 @@ pub(crate) fn gather<C: Chart>(
     firsts: &mut [i16],
 ) -> Sizes
     requires { (length names.old ≡ line_for max_edge) × (length firsts.old ≡ line_for max_edge) }
-    ensures { Gathered max_edge borders.now.items (lines_of C.Turning.turn C.Chart.points chart.now) strip result names.new firsts.new }
+    ensures { Gathered max_edge borders.now.items (lines C.Chart chart.now) strip result names.new firsts.new }
 {
     let mut marks = [0; MARK_BYTES];
     let slots = collect_names(chart, borders, strip, names);
@@ -101,7 +101,7 @@ pub(crate) fn gather<C: Chart>(
 
 // How many vertices and slots the strip has.
 pub(crate) fn measure<C: Chart>(chart: &C, borders: &Borders, strip: u16) -> Sizes
-    ensures { result ≡ size_of max_edge borders.now.items (lines_of C.Turning.turn C.Chart.points chart.now) strip }
+    ensures { result ≡ size_of max_edge borders.now.items (lines C.Chart chart.now) strip }
 {
     let mut names = [0; LINE_NAMES];
     let mut firsts = [0; LINE_NAMES];

@@ -23,26 +23,29 @@ pub fn holds_edge<T: Turning>(t: &T, edge: u16) -> bool
     edge <= MAX_EDGE && t.holds(edge as i16)
 }
 
+// Where the name starts, in range or not.
+fn start_of<C: Chart>(chart: &C, name: i32) -> Option<Point>
+    ensures { result ≡ C.Chart.points chart.now name }
+{
+    chart.placed();
+    let Ok(h) = i16::try_from(name) else {
+        return None;
+    };
+    chart.point(h)
+}
+
 // Where the edge starts, its western end.
 pub fn west_end<C: Chart>(chart: &C, edge: u16) -> Option<Point>
     ensures { result ≡ C.Chart.points chart.now (pos edge) }
 {
-    chart.placed();
-    if edge > MAX_EDGE {
-        return None;
-    }
-    chart.point(edge as i16)
+    start_of(chart, edge as i32)
 }
 
 // Where the edge ends, its eastern end.
 pub fn east_end<C: Chart>(chart: &C, edge: u16) -> Option<Point>
     ensures { result ≡ C.Chart.points chart.now (neg_ℤ (pos edge)) }
 {
-    chart.placed();
-    if edge > MAX_EDGE {
-        return None;
-    }
-    chart.point(-(edge as i16))
+    start_of(chart, -(edge as i32))
 }
 
 // The two ends, the western one first.
@@ -61,6 +64,7 @@ pub fn west_to_east(a: End, b: End) -> (End, End)
 pub fn joins_at<C: Chart>(chart: &C, end: End) -> bool
     ensures { result ≡ joins_at max_edge (lines C.Chart chart.now) end.point end.corner }
 {
+    // A `match`, since the two cases ask of different things: a chain over the Option would be no plainer.
     match end.corner {
         None => !chart.is_vertex(end.point),
         Some(c) => chart.holds(c) && chart.point(c) == Some(end.point),

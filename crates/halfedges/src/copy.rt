@@ -11,15 +11,7 @@ use crate::halfedge::{Halfedge, Rows};
 use crate::slots::{free_all, note, write};
 use chart::Chart;
 use chart::asks::holds_edge;
-use turning::Turning;
 use turning::limits::MAX_EDGE;
-
-// The number of edges of any turning, by a range without its last number, with which std's lemmas on chains begin.
-pub fn count_edges<T: Turning>(t: &T) -> u16
-    ensures { result ≡ edge_count max_edge (T.Turning.turn t.now) }
-{
-    (1..MAX_EDGE + 1).filter(|&e| holds_edge(t, e)).count() as u16
-}
 
 // Writes the row of one name at a slot, and notes the slot.
 fn copy_name<C: Chart>(rows: &mut [Halfedge], slot: usize, chart: &C, h: i16)

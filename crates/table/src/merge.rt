@@ -8,7 +8,8 @@ ghost use Rattle.table.specs.Tables.{room_of};
 
 use crate::Table;
 use chart::Chart;
-use halfedges::copy::{copy_chart, count_edges};
+use halfedges::copy::copy_chart;
+use turning::edges::count_edges;
 use turning::limits::SLOTS;
 
 impl<'a> Table<'a> {

@@ -33,10 +33,7 @@ impl fmt::Display for Counts {
         write!(
             f,
             "vertices {} edges {} loops {} pieces {}",
-            self.vertices,
-            self.edges,
-            self.loops,
-            self.pieces
+            self.vertices, self.edges, self.loops, self.pieces
         )
     }
 }

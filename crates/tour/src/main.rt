@@ -111,13 +111,15 @@ fn cut_and_merge(
     merged: &mut Table,
 ) -> anyhow::Result<()> {
     sheet.layout(table, &[2])?;
-    println!(rt; "laid out with a border at x = 2: {} strips", sheet.strips())?;
+    println!(rt;
+        "laid out with a border at x = 2: {} strips",
+        sheet.strips()
+    )?;
     print_slots(rt, sheet)?;
     let home = sheet.home(2, 1)?;
     println!(rt;
         "asked in strip 2, +1 is at home in strip {}, {} border away",
-        home.strip,
-        home.crossed
+        home.strip, home.crossed
     )?;
     sheet.merge(merged);
     let answer = yes_or_no(equal(merged, table) && equal(sheet, table));

@@ -1,7 +1,7 @@
 // What a chart is asked before it is changed, for every chart alike.
 ghost use Rattle.std.specs.Prelude.{◌≡◌, ◌≤◌, Bool, true, false, not, ◌&&◌, ℤ, pos, neg_ℤ, Option};
 ghost use Rattle.turning.specs.Limits.{max_edge};
-ghost use Rattle.chart.specs.Linework.{lines_of};
+ghost use Rattle.chart.specs.Bounds.{lines};
 ghost use Rattle.chart.specs.Changes.{numbered, western, eastern, joins_at, may_hang, may_cleave};
 
 use crate::Chart;
@@ -23,26 +23,29 @@ pub fn holds_edge<T: Turning>(t: &T, edge: u16) -> bool
     edge <= MAX_EDGE && t.holds(edge as i16)
 }
 
+// Where the name starts, in range or not.
+fn start_of<C: Chart>(chart: &C, name: i32) -> Option<Point>
+    ensures { result ≡ C.Chart.points chart.now name }
+{
+    chart.placed();
+    let Ok(h) = i16::try_from(name) else {
+        return None;
+    };
+    chart.point(h)
+}
+
 // Where the edge starts, its western end.
 pub fn west_end<C: Chart>(chart: &C, edge: u16) -> Option<Point>
     ensures { result ≡ C.Chart.points chart.now (pos edge) }
 {
-    chart.placed();
-    if edge > MAX_EDGE {
-        return None;
-    }
-    chart.point(edge as i16)
+    start_of(chart, edge as i32)
 }
 
 // Where the edge ends, its eastern end.
 pub fn east_end<C: Chart>(chart: &C, edge: u16) -> Option<Point>
     ensures { result ≡ C.Chart.points chart.now (neg_ℤ (pos edge)) }
 {
-    chart.placed();
-    if edge > MAX_EDGE {
-        return None;
-    }
-    chart.point(-(edge as i16))
+    start_of(chart, -(edge as i32))
 }
 
 // The two ends, the western one first.
@@ -59,8 +62,9 @@ pub fn west_to_east(a: End, b: End) -> (End, End)
 
 // Does the corner, if one is given, start at the point? Is the point on no vertex, if none is?
 pub fn joins_at<C: Chart>(chart: &C, end: End) -> bool
-    ensures { result ≡ joins_at max_edge (lines_of C.Turning.turn C.Chart.points chart.now) end.point end.corner }
+    ensures { result ≡ joins_at max_edge (lines C.Chart chart.now) end.point end.corner }
 {
+    // A `match`, since the two cases ask of different things: a chain over the Option would be no plainer.
     match end.corner {
         None => !chart.is_vertex(end.point),
         Some(c) => chart.holds(c) && chart.point(c) == Some(end.point),
@@ -69,7 +73,7 @@ pub fn joins_at<C: Chart>(chart: &C, end: End) -> bool
 
 // May the edge hang between the two ends, where `fits` says whether their points fit?
 pub fn may_hang<C: Chart>(chart: &C, edge: u16, a: End, b: End, fits: bool) -> bool
-    ensures { result ≡ may_hang max_edge (lines_of C.Turning.turn C.Chart.points chart.now) (λ _ _. fits) edge a b }
+    ensures { result ≡ may_hang max_edge (lines C.Chart chart.now) (λ _ _. fits) edge a b }
 {
     is_number(edge)
         && !holds_edge(chart, edge)
@@ -83,7 +87,7 @@ pub fn may_hang<C: Chart>(chart: &C, edge: u16, a: End, b: End, fits: bool) -> b
 
 // May the edge be cleft at the point, its eastern part a new edge, where `fits` says whether the point fits?
 pub fn may_cleave<C: Chart>(chart: &C, edge: u16, east: u16, at: Point, fits: bool) -> bool
-    ensures { result ≡ may_cleave max_edge (lines_of C.Turning.turn C.Chart.points chart.now) (λ _ _. fits) edge east at }
+    ensures { result ≡ may_cleave max_edge (lines C.Chart chart.now) (λ _ _. fits) edge east at }
 {
     holds_edge(chart, edge)
         && is_number(east)

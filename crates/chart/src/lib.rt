@@ -5,9 +5,10 @@ ghost use Rattle.std.specs.Prelude.{◌≡◌, ◌≤◌, Bool, true, false, ℤ
 ghost use Rattle.turning.specs.Limits.{max_edge};
 ghost use Rattle.chart.specs.declared.point.Point.{Point};
 ghost use Rattle.chart.specs.declared.point.End.{End};
-ghost use Rattle.chart.specs.Linework.{Placed, lines_of};
+ghost use Rattle.chart.specs.Linework.{Placed};
 ghost use Rattle.chart.specs.Changes.{starts_at, vertex_at};
-ghost use Rattle.chart.specs.Stores.{Frame, meant, Hangs, Lifts, Cleaves};
+ghost use Rattle.chart.specs.Bounds.{lines, meaning};
+ghost use Rattle.chart.specs.Stores.{Frame, Hangs, Lifts, Cleaves};
 
 use point::{End, Point};
 use turning::Turning;
@@ -29,14 +30,14 @@ pub trait Chart: Turning {
 
     // Does some vertex stand at the point? Every name is asked; a chart may know better.
     fn is_vertex(&self, p: Point) -> bool
-        ensures { result ≡ vertex_at max_edge (lines_of Self.Turning.turn points self.now) p }
+        ensures { result ≡ vertex_at max_edge (lines Self.Chart self.now) p }
     {
         self.placed();
         // A range without its last number, since std's lemmas on chains begin with such a one.
         (1..MAX_EDGE + 1).any(
             |e: u16| -> bool
                 requires { e ≤ max_edge }
-                ensures { result ≡ starts_at (lines_of Self.Turning.turn points self.entry.now) p e }
+                ensures { result ≡ starts_at (lines Self.Chart self.entry.now) p e }
             {
                 let h = e as i16;
                 self.point(h) == Some(p) || self.point(-h) == Some(p)
@@ -52,11 +53,11 @@ pub trait Store: Chart {
     ghost fits: { Self → Point → Point → Bool };
 
     fn hang(&mut self, edge: u16, a: End, b: End) -> bool
-        ensures { Hangs max_edge (meant Self.Turning.turn Self.Chart.points frame fits self.old) edge a b result (meant Self.Turning.turn Self.Chart.points frame fits self.new) };
+        ensures { Hangs max_edge (meaning Self.Store self.old) edge a b result (meaning Self.Store self.new) };
 
     fn lift(&mut self, edge: u16) -> bool
-        ensures { Lifts (meant Self.Turning.turn Self.Chart.points frame fits self.old) edge result (meant Self.Turning.turn Self.Chart.points frame fits self.new) };
+        ensures { Lifts (meaning Self.Store self.old) edge result (meaning Self.Store self.new) };
 
     fn cleave(&mut self, edge: u16, east: u16, at: Point) -> bool
-        ensures { Cleaves max_edge (meant Self.Turning.turn Self.Chart.points frame fits self.old) edge east at result (meant Self.Turning.turn Self.Chart.points frame fits self.new) };
+        ensures { Cleaves max_edge (meaning Self.Store self.old) edge east at result (meaning Self.Store self.new) };
 }

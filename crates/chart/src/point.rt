@@ -34,7 +34,7 @@ impl Point {
         is_within(self.x) && is_within(self.y)
     }
 
-    // Is this point west of the other: a smaller x, or an equal x and a smaller y? The subject's word for the order of points.
+    // Is this point west of the other: a smaller x, or an equal x and a smaller y? It stays beside `<`, as the subject's word for the order of points.
     pub fn is_west_of(self, other: Point) -> bool
         ensures { result ≡ west self other }
     {
@@ -70,6 +70,7 @@ impl End {
 pub fn is_told_west(p: Option<Point>, q: Option<Point>) -> bool
     ensures { result ≡ told_west p q }
 {
+    // A `match`, since it shows the answer where a point is missing: `zip` with `is_some_and` takes a closure and is no plainer.
     match (p, q) {
         (Some(p), Some(q)) => p.is_west_of(q),
         _ => false,

@@ -2,9 +2,8 @@
 ghost use Rattle.std.specs.Prelude.{◌≡◌, true, [], length, replicate, ℤ, pos};
 ghost use Rattle.turning.specs.Limits.{max_edge};
 ghost use Rattle.turning.specs.Counts.{same_loop};
+ghost use Rattle.chart.specs.Bounds.{lines, meaning};
 ghost use Rattle.search.specs.Marks.{Clean};
-ghost use Rattle.chart.specs.Linework.{lines_of};
-ghost use Rattle.chart.specs.Stores.{meant};
 ghost use Rattle.edits.specs.Edits.{joins, made, may_join, join_questions, Settled};
 
 use crate::asks::start_of;
@@ -46,7 +45,7 @@ pub(crate) fn join_within<S: Store>(
     marks: &mut Marks,
     line: &mut Line,
 ) -> Result<(), Refusal>
-    ensures done { Settled (join_questions max_edge (meant S.Turning.turn S.Chart.points S.Store.frame S.Store.fits store.old) edge c d) (made (joins edge c d [] []) (lines_of S.Turning.turn S.Chart.points store.old)) (meant S.Turning.turn S.Chart.points S.Store.frame S.Store.fits store.old) result (meant S.Turning.turn S.Chart.points S.Store.frame S.Store.fits store.new) }
+    ensures done { Settled (join_questions max_edge (meaning S.Store store.old) edge c d) (made (joins edge c d [] []) (lines S.Chart store.old)) (meaning S.Store store.old) result (meaning S.Store store.new) }
     ensures zero { marks.new ≡ replicate (length marks.old) 0 }
     ensures empty { line.new ≡ replicate (length line.old) (pos 0) }
 {

@@ -4,7 +4,7 @@
 ghost use Rattle.std.specs.Prelude.{◌≡◌, true, cond, ℤ, pos, Ok, Err};
 ghost use Rattle.turning.specs.Limits.{max_edge, marks_for, line_for};
 ghost use Rattle.turning.specs.declared.refusal.Refusal.TheVariants.{LoopsOfOnePiece};
-ghost use Rattle.chart.specs.Stores.{meant};
+ghost use Rattle.chart.specs.Bounds.{meaning};
 ghost use Rattle.search.specs.Buffers.{enough, given_back};
 ghost use Rattle.edits.specs.Edits.{starts, sprouts, joins, splits, removes, Done, KeepsFlat, Judged};
 
@@ -21,8 +21,8 @@ mod joins;
 
 // A new edge between two new points.
 pub fn start<S: Store>(store: &mut S, edge: u16, p: Point, q: Point) -> Result<(), Refusal>
-    ensures done { Done max_edge (meant S.Turning.turn S.Chart.points S.Store.frame S.Store.fits store.old) (starts edge p q) result (meant S.Turning.turn S.Chart.points S.Store.frame S.Store.fits store.new) }
-    ensures flat { KeepsFlat max_edge (meant S.Turning.turn S.Chart.points S.Store.frame S.Store.fits store.old) (meant S.Turning.turn S.Chart.points S.Store.frame S.Store.fits store.new) }
+    ensures done { Done max_edge (meaning S.Store store.old) (starts edge p q) result (meaning S.Store store.new) }
+    ensures flat { KeepsFlat max_edge (meaning S.Store store.old) (meaning S.Store store.new) }
 {
     store.placed();
     if !is_number(edge) {
@@ -43,8 +43,8 @@ pub fn start<S: Store>(store: &mut S, edge: u16, p: Point, q: Point) -> Result<(
 
 // A new edge from the start of the corner, directly after it, to a new point.
 pub fn sprout<S: Store>(store: &mut S, edge: u16, corner: i16, p: Point) -> Result<(), Refusal>
-    ensures done { Done max_edge (meant S.Turning.turn S.Chart.points S.Store.frame S.Store.fits store.old) (sprouts edge corner p) result (meant S.Turning.turn S.Chart.points S.Store.frame S.Store.fits store.new) }
-    ensures flat { KeepsFlat max_edge (meant S.Turning.turn S.Chart.points S.Store.frame S.Store.fits store.old) (meant S.Turning.turn S.Chart.points S.Store.frame S.Store.fits store.new) }
+    ensures done { Done max_edge (meaning S.Store store.old) (sprouts edge corner p) result (meaning S.Store store.new) }
+    ensures flat { KeepsFlat max_edge (meaning S.Store store.old) (meaning S.Store store.new) }
 {
     store.placed();
     if !is_number(edge) {
@@ -72,9 +72,9 @@ pub fn join<S: Store>(
     marks: &mut [u8],
     line: &mut [i16],
 ) -> Result<(), Refusal>
-    ensures done { Done max_edge (meant S.Turning.turn S.Chart.points S.Store.frame S.Store.fits store.old) (joins edge c d marks.old line.old) result (meant S.Turning.turn S.Chart.points S.Store.frame S.Store.fits store.new) }
-    ensures flat { KeepsFlat max_edge (meant S.Turning.turn S.Chart.points S.Store.frame S.Store.fits store.old) (meant S.Turning.turn S.Chart.points S.Store.frame S.Store.fits store.new) }
-    ensures judged { Judged max_edge (meant S.Turning.turn S.Chart.points S.Store.frame S.Store.fits store.old) (joins edge c d marks.old line.old) (result ≡ Err LoopsOfOnePiece) }
+    ensures done { Done max_edge (meaning S.Store store.old) (joins edge c d marks.old line.old) result (meaning S.Store store.new) }
+    ensures flat { KeepsFlat max_edge (meaning S.Store store.old) (meaning S.Store store.new) }
+    ensures judged { Judged max_edge (meaning S.Store store.old) (joins edge c d marks.old line.old) (result ≡ Err LoopsOfOnePiece) }
     ensures zero { marks.new ≡ given_back (enough max_edge marks.old line.old) (marks_for max_edge) 0 marks.old }
     ensures empty { line.new ≡ given_back (enough max_edge marks.old line.old) (line_for max_edge) (pos 0) line.old }
 {
@@ -91,8 +91,8 @@ pub fn join<S: Store>(
 
 // Cleaves an edge at a new point: the western part keeps its number, the eastern part is a new edge.
 pub fn split<S: Store>(store: &mut S, edge: u16, east: u16, p: Point) -> Result<(), Refusal>
-    ensures done { Done max_edge (meant S.Turning.turn S.Chart.points S.Store.frame S.Store.fits store.old) (splits edge east p) result (meant S.Turning.turn S.Chart.points S.Store.frame S.Store.fits store.new) }
-    ensures flat { KeepsFlat max_edge (meant S.Turning.turn S.Chart.points S.Store.frame S.Store.fits store.old) (meant S.Turning.turn S.Chart.points S.Store.frame S.Store.fits store.new) }
+    ensures done { Done max_edge (meaning S.Store store.old) (splits edge east p) result (meaning S.Store store.new) }
+    ensures flat { KeepsFlat max_edge (meaning S.Store store.old) (meaning S.Store store.new) }
 {
     store.placed();
     if !is_number(east) {
@@ -116,8 +116,8 @@ pub fn split<S: Store>(store: &mut S, edge: u16, east: u16, p: Point) -> Result<
 
 // Lifts an edge.
 pub fn remove<S: Store>(store: &mut S, edge: u16) -> Result<(), Refusal>
-    ensures done { Done max_edge (meant S.Turning.turn S.Chart.points S.Store.frame S.Store.fits store.old) (removes edge) result (meant S.Turning.turn S.Chart.points S.Store.frame S.Store.fits store.new) }
-    ensures flat { KeepsFlat max_edge (meant S.Turning.turn S.Chart.points S.Store.frame S.Store.fits store.old) (meant S.Turning.turn S.Chart.points S.Store.frame S.Store.fits store.new) }
+    ensures done { Done max_edge (meaning S.Store store.old) (removes edge) result (meaning S.Store store.new) }
+    ensures flat { KeepsFlat max_edge (meaning S.Store store.old) (meaning S.Store store.new) }
 {
     store.placed();
     let done = store.lift(edge);

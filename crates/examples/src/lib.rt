@@ -67,10 +67,6 @@ mod tests {
         }
     }
 
-    fn is_flat(c: Counts) -> bool {
-        u32::from(c.vertices) + u32::from(c.loops) == u32::from(c.edges) + 2 * u32::from(c.pieces)
-    }
-
     #[test]
     fn triangle_has_two_loops(rt: HostRuntime) -> Result<(), Fail> {
         let mut memory = vec![in rt.alloc(); FREE; SLOTS]?;
@@ -93,7 +89,7 @@ mod tests {
                 pieces: 1,
             }
         );
-        assert!(rt; is_flat(c));
+        assert!(rt; c.is_flat());
         Ok(())
     }
 
@@ -104,7 +100,7 @@ mod tests {
         assert!(rt; table.hang(1, End::new(B), End::new(A)));
         check_loop(&rt, &table, &[1, -1]);
         assert_eq!(rt; table.follower(1), 1);
-        assert!(rt; is_flat(count_all(&rt, &table)?));
+        assert!(rt; count_all(&rt, &table)?.is_flat());
         Ok(())
     }
 
@@ -115,7 +111,7 @@ mod tests {
         draw_three(&rt, &mut table, -2);
         let c = count_all(&rt, &table)?;
         assert_eq!(rt; c.loops, 1);
-        assert!(rt; !is_flat(c));
+        assert!(rt; !c.is_flat());
         Ok(())
     }
 
@@ -126,7 +122,7 @@ mod tests {
         draw_three(&rt, &mut table, -1);
         let c = count_all(&rt, &table)?;
         assert_eq!(rt; c.loops, 3);
-        assert!(rt; is_flat(c));
+        assert!(rt; c.is_flat());
         Ok(())
     }
 
@@ -272,7 +268,7 @@ mod tests {
         let mut table = Table::new(memory.as_mut_slice());
         edit_triangle(&rt, &mut table)?;
         check_loop(&rt, &table, &[1, 4, -3, -2]);
-        assert!(rt; is_flat(count_all(&rt, &table)?));
+        assert!(rt; count_all(&rt, &table)?.is_flat());
         Ok(())
     }
 

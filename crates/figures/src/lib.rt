@@ -3,62 +3,42 @@
 
 ghost use Rattle.figures.specs.Figures.{EdgeIs, TriangleIs, SquareIs, HalvedIs, JoinedIs, ChangedIs, TorusIs, TwistedIs, ThetaIs, GridIs};
 
-pub fn edge_stands() -> u8
+pub fn edge_stands()
     ensures { EdgeIs }
-{
-    0
-}
+{}
 
-pub fn triangle_stands() -> u8
+pub fn triangle_stands()
     ensures { TriangleIs }
-{
-    0
-}
+{}
 
-pub fn square_stands() -> u8
+pub fn square_stands()
     ensures { SquareIs }
-{
-    0
-}
+{}
 
-pub fn halved_stands() -> u8
+pub fn halved_stands()
     ensures { HalvedIs }
-{
-    0
-}
+{}
 
-pub fn joined_stands() -> u8
+pub fn joined_stands()
     ensures { JoinedIs }
-{
-    0
-}
+{}
 
-pub fn changed_stands() -> u8
+pub fn changed_stands()
     ensures { ChangedIs }
-{
-    0
-}
+{}
 
-pub fn torus_stands() -> u8
+pub fn torus_stands()
     ensures { TorusIs }
-{
-    0
-}
+{}
 
-pub fn twisted_stands() -> u8
+pub fn twisted_stands()
     ensures { TwistedIs }
-{
-    0
-}
+{}
 
-pub fn theta_stands() -> u8
+pub fn theta_stands()
     ensures { ThetaIs }
-{
-    0
-}
+{}
 
-pub fn grid_stands() -> u8
+pub fn grid_stands()
     ensures { GridIs }
-{
-    0
-}
+{}

@@ -4,7 +4,9 @@ use Rattle.std.specs.List.{filter, range_with_len}
 use Rattle.std.proofs.lemmas.List.FromFn.{filter_of_map_range_with_len_more}
 use Rattle.std.proofs.lemmas.Int.{ints}
 use Rattle.flat.specs.Orbits.{indicator}
-use Rattle.turning.specs.Turn.{Turn}
+use Rattle.turning.specs.Turn.{Turn, Lawful}
+use Rattle.turning.specs.Counts.{edges}
+use Rattle.turning.proofs.Pairs.{edges_by_number}
 use Rattle.chart.specs.Changes.{at, put, drawn}
 use Rattle.laws.proofs.Equal.{tell}
 use Rattle.halfedges.specs.Rows.{edge_count}
@@ -45,24 +47,6 @@ edge_less n t e l u here =
     here
     (λ k d. grind (arith, tell (pos k) (neg_ℤ (pos e)), tell (pos k) (pos e), neg_other k e l, pos_other k e d)))
 
-same_list : (xs : List ℕ) → map (λ x. x) xs ≡ xs
-same_list [] = refl
-same_list (x ∷ xs) = ap (λ ys. x ∷ ys) (same_list xs)
-
-one_more : (b : Bool) (x : ℕ) → length (cond b (x ∷ []) []) ≡ indicator b
-one_more true x = refl
-one_more false x = refl
-
--- the edges are as many as a filter of all numbers lets through
-pub edges_filtered : (n : ℕ) (t : Turn) → edge_count n t ≡ length (filter (λ e. t.held (pos e)) (range_with_len 1 n))
-edges_filtered zero t = edges_none t
-edges_filtered (suc n) t =
-    let p : ℕ → Bool = λ e. t.held (pos e) in
-    let rec = edges_filtered n t in
-    let a = edges_more t n in
-    let more : filter p (range_with_len 1 (suc n)) ≡ filter p (range_with_len 1 n) ++ cond (p (suc n)) (suc n ∷ []) [] =
-    ap (filter p) (sym (same_list (range_with_len 1 (suc n))) ∙ ap (λ k. map (λ x. x) (range_with_len 1 k)) (sym (add-one n)))
-    ∙ filter_of_map_range_with_len_more p (λ x. x) 1 n (suc n) (omega arith) ∙ ap (λ xs. filter p xs ++ cond (p (suc n)) (suc n ∷ []) []) (same_list (range_with_len 1 n)) in
-    let b : length (filter p (range_with_len 1 (suc n))) ≡ length (filter p (range_with_len 1 n)) + indicator (p (suc n)) =
-    ap length more ∙ length-append (filter p (range_with_len 1 n)) (cond (p (suc n)) (suc n ∷ []) []) ∙ ap (λ k. length (filter p (range_with_len 1 n)) + k) (one_more (p (suc n)) (suc n)) in
-    omega arith
+-- the same number as a turning's own count
+pub edges_are : (n : ℕ) (t : Turn) → Lawful n t → edges n t ≡ edge_count n t
+edges_are n t law = sym (edges_by_number n t law (λ k. edge_count k t) (edges_none t) (λ k l. edges_more t k))

@@ -2,7 +2,7 @@
 ghost use Rattle.std.specs.Prelude.{◌≡◌, ℕ, ◌+◌, ◌*◌, ◌≤◌, false, ◌&&◌, length, ℤ, pos, neg_ℤ, ◌≤ℤ◌, ◌==◌, ◌≢◌};
 ghost use Rattle.flat.specs.Orbits.{indicator};
 ghost use Rattle.turning.specs.Limits.{max_edge, slots};
-ghost use Rattle.chart.specs.Linework.{lines_of};
+ghost use Rattle.chart.specs.Bounds.{lines};
 ghost use Rattle.halfedges.specs.View.{none, seen};
 ghost use Rattle.halfedges.specs.Rows.{lines_in, home, settled, used, slot_count, edge_count, Blank, Core};
 ghost use Rattle.halfedges.specs.Copies.{row_for, copied_edge, Copied};
@@ -11,15 +11,7 @@ use crate::halfedge::{Halfedge, Rows};
 use crate::slots::{free_all, note, write};
 use chart::Chart;
 use chart::asks::holds_edge;
-use turning::Turning;
 use turning::limits::MAX_EDGE;
-
-// The number of edges of any turning, by a range without its last number, with which std's lemmas on chains begin.
-pub fn count_edges<T: Turning>(t: &T) -> u16
-    ensures { result ≡ edge_count max_edge (T.Turning.turn t.now) }
-{
-    (1..MAX_EDGE + 1).filter(|&e| holds_edge(t, e)).count() as u16
-}
 
 // Writes the row of one name at a slot, and notes the slot.
 fn copy_name<C: Chart>(rows: &mut [Halfedge], slot: usize, chart: &C, h: i16)
@@ -28,7 +20,7 @@ fn copy_name<C: Chart>(rows: &mut [Halfedge], slot: usize, chart: &C, h: i16)
     requires high { slot ≤ slots }
     requires least { neg_ℤ (pos max_edge) ≤ℤ h }
     requires most { h ≤ℤ pos max_edge }
-    ensures { seen rows.new ≡ settled slot h (row_for (lines_of C.Turning.turn C.Chart.points chart.now) h) (seen rows.old) }
+    ensures { seen rows.new ≡ settled slot h (row_for (lines C.Chart chart.now) h) (seen rows.old) }
 {
     let at = chart.point(h).unwrap_or_default();
     let row = Halfedge {
@@ -49,7 +41,7 @@ fn copy_edge<C: Chart>(rows: &mut [Halfedge], filled: usize, chart: &C, edge: u1
     requires long { slots ≤ length rows.old }
     requires room { filled + 2 ≤ slots }
     requires number { edge ≤ max_edge }
-    ensures { seen rows.new ≡ copied_edge (lines_of C.Turning.turn C.Chart.points chart.now) edge filled (seen rows.old) }
+    ensures { seen rows.new ≡ copied_edge (lines C.Chart chart.now) edge filled (seen rows.old) }
 {
     copy_name(rows, filled + 1, chart, edge as i16);
     copy_name(rows, filled + 2, chart, -(edge as i16));
@@ -60,7 +52,7 @@ fn copy_edges<C: Chart>(rows: &mut [Halfedge], chart: &C)
     requires blank { Blank rows.old }
     requires long { slots ≤ length rows.old }
     requires room { 2 * edge_count max_edge (C.Turning.turn chart.now) ≤ slots }
-    ensures { Copied (lines_of C.Turning.turn C.Chart.points chart.now) (C.Turning.turn chart.now).held (2 * edge_count max_edge (C.Turning.turn chart.now)) (seen rows.new) }
+    ensures { Copied (lines C.Chart chart.now) (C.Turning.turn chart.now).held (2 * edge_count max_edge (C.Turning.turn chart.now)) (seen rows.new) }
 {
     let mut filled = 0;
     for e in 1..=MAX_EDGE {
@@ -75,7 +67,7 @@ fn copy_edges<C: Chart>(rows: &mut [Halfedge], chart: &C)
 pub fn copy_chart<C: Chart>(rows: &mut Rows, chart: &C)
     requires long { slots ≤ length rows.old.at.now }
     requires room { 2 * edge_count max_edge (C.Turning.turn chart.now) ≤ slots }
-    ensures lines { lines_in (seen rows.new.at.now) ≡ lines_of C.Turning.turn C.Chart.points chart.now }
+    ensures lines { lines_in (seen rows.new.at.now) ≡ lines C.Chart chart.now }
     ensures core { Core max_edge slots rows.new.at.now }
     ensures used { used slots (seen rows.new.at.now) ≡ 2 * edge_count max_edge (C.Turning.turn chart.now) }
     ensures homes { (s : ℕ) → home ((seen rows.new.at.now).row s) ≡ false → (seen rows.new.at.now).row s ≡ none }

@@ -5,56 +5,38 @@ ghost use Rattle.std.specs.Prelude.{ℕ};
 ghost use Rattle.laws.specs.Keeps.{LiftKeeps, HangKeeps, CleaveKeeps};
 ghost use Rattle.laws.specs.Laws.{Euler, HungFlat, HungCounts, LiftedFlat, CleftFlat, CleftCounts};
 
-pub fn lift_keeps_stands() -> u8
+pub fn lift_keeps_stands()
     ensures { (n : ℕ) → LiftKeeps n }
-{
-    0
-}
+{}
 
-pub fn hang_keeps_stands() -> u8
+pub fn hang_keeps_stands()
     ensures { (n : ℕ) → HangKeeps n }
-{
-    0
-}
+{}
 
-pub fn cleave_keeps_stands() -> u8
+pub fn cleave_keeps_stands()
     ensures { (n : ℕ) → CleaveKeeps n }
-{
-    0
-}
+{}
 
-pub fn euler_stands() -> u8
+pub fn euler_stands()
     ensures { Euler }
-{
-    0
-}
+{}
 
-pub fn hung_flat_stands() -> u8
+pub fn hung_flat_stands()
     ensures { HungFlat }
-{
-    0
-}
+{}
 
-pub fn hung_counts_stands() -> u8
+pub fn hung_counts_stands()
     ensures { HungCounts }
-{
-    0
-}
+{}
 
-pub fn lifted_flat_stands() -> u8
+pub fn lifted_flat_stands()
     ensures { LiftedFlat }
-{
-    0
-}
+{}
 
-pub fn cleft_flat_stands() -> u8
+pub fn cleft_flat_stands()
     ensures { CleftFlat }
-{
-    0
-}
+{}
 
-pub fn cleft_counts_stands() -> u8
+pub fn cleft_counts_stands()
     ensures { CleftCounts }
-{
-    0
-}
+{}

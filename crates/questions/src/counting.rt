@@ -9,10 +9,10 @@ ghost use Rattle.search.specs.Buffers.{enough_marks, enough, given_back};
 ghost use Rattle.questions.specs.Counting.{counted};
 
 use crate::Counts;
-use search::edges::count_edges;
 use search::marks::{Line, Marks};
 use search::pieces::count_pieces;
 use search::rounds::count_rounds;
+use turning::edges::count_edges;
 use turning::limits::{LINE_NAMES, MARK_BYTES};
 use turning::refusal::Refusal;
 use turning::{LoopSide, Turning};

@@ -4,6 +4,8 @@
 
 ghost use Rattle.std.specs.Prelude.{◌≡◌, ◌+◌, ◌*◌, ◌==◌};
 
+use std::fmt;
+
 pub mod counting;
 pub mod loops;
 pub mod pieces;
@@ -23,5 +25,15 @@ impl Counts {
         ensures { result ≡ (self.vertices + self.loops == self.edges + 2 * self.pieces) }
     {
         self.vertices as u32 + self.loops as u32 == self.edges as u32 + 2 * self.pieces as u32
+    }
+}
+
+impl fmt::Display for Counts {
+    fn fmt<W: fmt::Write>(&self, f: &mut fmt::Formatter<W>) -> fmt::Result {
+        write!(
+            f,
+            "vertices {} edges {} loops {} pieces {}",
+            self.vertices, self.edges, self.loops, self.pieces
+        )
     }
 }

@@ -1,7 +1,8 @@
 // Lists of edits over any store.
 ghost use Rattle.std.specs.Prelude.{◌≡◌};
 ghost use Rattle.turning.specs.Refusals.{Outcome};
-ghost use Rattle.chart.specs.Stores.{Meaning, meant};
+ghost use Rattle.chart.specs.Stores.{Meaning};
+ghost use Rattle.chart.specs.Bounds.{meaning};
 ghost use Rattle.runs.specs.Chains.{Chain};
 ghost use Rattle.runs.specs.Runs.{CallCarried, StepBy, FlatStepBy, FlatAt};
 
@@ -71,7 +72,7 @@ pub trait Carry<S> {
 }
 
 impl<S: Store> Carry<S> for Call {
-    ghost means = { λ s. meant S.Turning.turn S.Chart.points S.Store.frame S.Store.fits s };
+    ghost means = { λ s. meaning S.Store s };
 
     ghost carried = { CallCarried };
 

@@ -1,7 +1,5 @@
 // Lists of calls over a stripped sheet, cuts and knits among them, beside a second store that gets the edits only.
 ghost use Rattle.std.specs.Prelude.{◌≡◌};
-ghost use Rattle.chart.specs.Linework.{lines_of};
-ghost use Rattle.chart.specs.Stores.{meant};
 ghost use Rattle.halfedges.specs.View.{seen};
 ghost use Rattle.halfedges.specs.Rows.{lines_in};
 ghost use Rattle.strips.specs.Sheets.{sheet_of};
@@ -10,6 +8,7 @@ ghost use Rattle.runs.specs.Runs.{Step, FlatStep, FlatAt};
 ghost use Rattle.runs.specs.Sheets.{SheetCarried, SheetStep, FlatSheetStep};
 ghost use Rattle.runs.specs.Flatness.{sheet_flat};
 ghost use Rattle.runs.specs.Agreed.{Alike};
+ghost use Rattle.chart.specs.Bounds.{lines, meaning};
 
 use crate::calls::{Call, Carry, Item, run};
 use chart::Store;
@@ -48,9 +47,9 @@ pub fn run_both<S: Store>(
     items: &mut [Item<Call>],
 )
     ensures sheet { Chain SheetStep (sheet_of sheet.old.borders.items sheet.old.rows.at.now) calls.old calls.new (sheet_of sheet.new.borders.items sheet.new.rows.at.now) }
-    ensures other { Chain Step (meant S.Turning.turn S.Chart.points S.Store.frame S.Store.fits other.old) items.old items.new (meant S.Turning.turn S.Chart.points S.Store.frame S.Store.fits other.new) }
+    ensures other { Chain Step (meaning S.Store other.old) items.old items.new (meaning S.Store other.new) }
     ensures flat { FlatAt (sheet_of sheet.old.borders.items sheet.old.rows.at.now) → Chain FlatSheetStep (sheet_of sheet.old.borders.items sheet.old.rows.at.now) calls.old calls.new (sheet_of sheet.new.borders.items sheet.new.rows.at.now) }
-    ensures alike { Alike calls.old items.old (lines_in (seen sheet.old.rows.at.now)) (lines_of S.Turning.turn S.Chart.points other.old) calls.new items.new (lines_in (seen sheet.new.rows.at.now)) (lines_of S.Turning.turn S.Chart.points other.new) }
+    ensures alike { Alike calls.old items.old (lines_in (seen sheet.old.rows.at.now)) (lines S.Chart other.old) calls.new items.new (lines_in (seen sheet.new.rows.at.now)) (lines S.Chart other.new) }
 {
     run(sheet, calls);
     run(other, items);

@@ -2,5 +2,4 @@ pub mod Walking
 pub mod Marking
 pub mod Sweeps
 pub mod Floods
-pub mod Pairs
 pub mod Buffers

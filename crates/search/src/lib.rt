@@ -2,7 +2,6 @@
 #![tactic(auto)]
 
 mod classes;
-pub mod edges;
 pub mod marks;
 pub mod pieces;
 pub mod rounds;

@@ -4,8 +4,6 @@
 ghost use Rattle.specimens.specs.Examples.{WorkedExamples};
 
 // All worked examples stand.
-pub fn worked_examples_stand() -> u8
+pub fn worked_examples_stand()
     ensures { WorkedExamples }
-{
-    0
-}
+{}

@@ -2,7 +2,8 @@
 ghost use Rattle.std.specs.Prelude.{◌≡◌, ◌<◌, ◌≤◌, length, Ok};
 ghost use Rattle.turning.specs.Limits.{max_edge, slots};
 ghost use Rattle.turning.specs.Refusals.{asked};
-ghost use Rattle.chart.specs.Linework.{lines_of, no_lines};
+ghost use Rattle.chart.specs.Linework.{no_lines};
+ghost use Rattle.chart.specs.Bounds.{lines};
 ghost use Rattle.halfedges.specs.View.{seen};
 ghost use Rattle.halfedges.specs.Rows.{lines_in};
 ghost use Rattle.strips.specs.Borders.{slots_taken};
@@ -21,9 +22,9 @@ use turning::refusal::Refusal;
 
 // Puts a whole chart into the memory, in the strips of the borders. A memory that is too short holds nothing, as a chart without an edge does.
 fn put_chart<C: Chart>(rows: &mut Rows, chart: &C, borders: &Borders)
-    requires room { slots_taken borders.now.items (lines_of C.Turning.turn C.Chart.points chart.now) max_edge ≤ room_of rows.old.at.now }
+    requires room { slots_taken borders.now.items (lines C.Chart chart.now) max_edge ≤ room_of rows.old.at.now }
     ensures kept { Kept borders.now.items rows.new.at.now }
-    ensures lines { lines_in (seen rows.new.at.now) ≡ lines_of C.Turning.turn C.Chart.points chart.now }
+    ensures lines { lines_in (seen rows.new.at.now) ≡ lines C.Chart chart.now }
     ensures length { length rows.new.at.now ≡ length rows.old.at.now }
 {
     chart.placed();
@@ -35,8 +36,8 @@ fn put_chart<C: Chart>(rows: &mut Rows, chart: &C, borders: &Borders)
 impl<'a> Sheet<'a> {
     // Holds exactly the chart, in the strips of the borders, whatever it held before. A refusal leaves the sheet as it is.
     pub fn layout<C: Chart>(&mut self, chart: &C, borders: &[i32]) -> Result<(), Refusal>
-        ensures answer { result ≡ asked (layout_questions borders.now (lines_of C.Turning.turn C.Chart.points chart.now) (room_of self.old.rows.at.now)) tt }
-        ensures laid { Laid result borders.now (lines_of C.Turning.turn C.Chart.points chart.now) self.old.borders.items self.old.rows.at.now self.new.borders.items self.new.rows.at.now }
+        ensures answer { result ≡ asked (layout_questions borders.now (lines C.Chart chart.now) (room_of self.old.rows.at.now)) tt }
+        ensures laid { Laid result borders.now (lines C.Chart chart.now) self.old.borders.items self.old.rows.at.now self.new.borders.items self.new.rows.at.now }
         ensures length { length self.new.rows.at.now ≡ length self.old.rows.at.now }
     {
         let cut = borders::check(borders)?;
@@ -64,8 +65,8 @@ pub fn lay_out_and_merge<C: Chart>(
     sheet: &mut Sheet,
     table: &mut Table,
 ) -> Result<(), Refusal>
-    ensures answer { result ≡ asked (layout_questions borders.now (lines_of C.Turning.turn C.Chart.points chart.now) (room_of sheet.old.rows.at.now)) tt }
-    ensures same { result ≡ Ok tt → slots ≤ length table.old.rows.at.now → lines_in (seen table.new.rows.at.now) ≡ lines_of C.Turning.turn C.Chart.points chart.now }
+    ensures answer { result ≡ asked (layout_questions borders.now (lines C.Chart chart.now) (room_of sheet.old.rows.at.now)) tt }
+    ensures same { result ≡ Ok tt → slots ≤ length table.old.rows.at.now → lines_in (seen table.new.rows.at.now) ≡ lines C.Chart chart.now }
 {
     sheet.layout(chart, borders)?;
     sheet.merge(table);

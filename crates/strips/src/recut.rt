@@ -1,7 +1,7 @@
 // A whole memory is put into strips, whatever strips it had: layouts, cuts and knits all come to this.
 ghost use Rattle.std.specs.Prelude.{◌≡◌, ◌≤◌, length};
 ghost use Rattle.turning.specs.Limits.{max_edge, slots};
-ghost use Rattle.chart.specs.Linework.{lines_of};
+ghost use Rattle.chart.specs.Bounds.{lines};
 ghost use Rattle.halfedges.specs.View.{seen};
 ghost use Rattle.halfedges.specs.Rows.{lines_in, Core};
 ghost use Rattle.halfedges.specs.Homes.{HomesAlone};
@@ -67,9 +67,9 @@ pub(crate) fn recut(rows: &mut Rows, borders: &Borders)
 // Fills the memory with a whole chart, and nothing else, in the strips of the borders.
 pub(crate) fn fill<C: Chart>(rows: &mut Rows, chart: &C, borders: &Borders)
     requires long { slots ≤ length rows.old.at.now }
-    requires room { slots_taken borders.now.items (lines_of C.Turning.turn C.Chart.points chart.now) max_edge ≤ slots }
+    requires room { slots_taken borders.now.items (lines C.Chart chart.now) max_edge ≤ slots }
     ensures stripped { Stripped max_edge slots borders.now.items rows.new.at.now }
-    ensures lines { lines_in (seen rows.new.at.now) ≡ lines_of C.Turning.turn C.Chart.points chart.now }
+    ensures lines { lines_in (seen rows.new.at.now) ≡ lines C.Chart chart.now }
     ensures length { length rows.new.at.now ≡ length rows.old.at.now }
 {
     copy_chart(rows, chart);

@@ -2,26 +2,18 @@
 ghost use Rattle.strips.specs.Cuts.{StripIs, StripsRise};
 ghost use Rattle.strips.specs.Seams.{CutThenKnit, RoomsAlike};
 
-pub fn strip_is_stands() -> u8
+pub fn strip_is_stands()
     ensures { StripIs }
-{
-    0
-}
+{}
 
-pub fn strips_rise_stands() -> u8
+pub fn strips_rise_stands()
     ensures { StripsRise }
-{
-    0
-}
+{}
 
-pub fn cut_then_knit_stands() -> u8
+pub fn cut_then_knit_stands()
     ensures { CutThenKnit }
-{
-    0
-}
+{}
 
-pub fn rooms_alike_stands() -> u8
+pub fn rooms_alike_stands()
     ensures { RoomsAlike }
-{
-    0
-}
+{}

@@ -3,20 +3,14 @@
 
 ghost use Rattle.told.specs.Theorems.{AcceptedTells, ToldAccepted, AcceptedExactly};
 
-pub fn accepted_tells_stands() -> u8
+pub fn accepted_tells_stands()
     ensures { AcceptedTells }
-{
-    0
-}
+{}
 
-pub fn told_accepted_stands() -> u8
+pub fn told_accepted_stands()
     ensures { ToldAccepted }
-{
-    0
-}
+{}
 
-pub fn accepted_exactly_stands() -> u8
+pub fn accepted_exactly_stands()
     ensures { AcceptedExactly }
-{
-    0
-}
+{}

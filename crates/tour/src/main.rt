@@ -26,8 +26,7 @@ fn yes_or_no(answer: bool) -> &'static str {
 // Hangs an edge between two ends, and prints what was asked and answered.
 fn hang<S: Store>(rt: &impl Print, store: &mut S, edge: u16, a: End, b: End) -> anyhow::Result<()> {
     let answer = yes_or_no(store.hang(edge, a, b));
-    let (p, q) = (a.point, b.point);
-    println!(rt; "hang {edge} between {p} and {q}: {answer}")?;
+    println!(rt; "hang {edge} between {} and {}: {answer}", a.point, b.point)?;
     Ok(())
 }
 
@@ -63,11 +62,8 @@ fn print_counts<T: Turning>(
     line: &mut [i16],
 ) -> anyhow::Result<()> {
     let c = counts(t, marks, line)?;
-    let (vertices, edges, loops, pieces) = (c.vertices, c.edges, c.loops, c.pieces);
-    println!(rt; "vertices {vertices} edges {edges} loops {loops} pieces {pieces}")?;
-    let flat = u32::from(vertices) + u32::from(loops) == u32::from(edges) + 2 * u32::from(pieces);
-    let answer = yes_or_no(flat);
-    println!(rt; "flat: {answer}")?;
+    println!(rt; "{c}")?;
+    println!(rt; "flat: {}", yes_or_no(c.is_flat()))?;
     Ok(())
 }
 
@@ -115,12 +111,16 @@ fn cut_and_merge(
     merged: &mut Table,
 ) -> anyhow::Result<()> {
     sheet.layout(table, &[2])?;
-    let strips = sheet.strips();
-    println!(rt; "laid out with a border at x = 2: {strips} strips")?;
+    println!(rt;
+        "laid out with a border at x = 2: {} strips",
+        sheet.strips()
+    )?;
     print_slots(rt, sheet)?;
     let home = sheet.home(2, 1)?;
-    let (strip, crossed) = (home.strip, home.crossed);
-    println!(rt; "asked in strip 2, +1 is at home in strip {strip}, {crossed} border away")?;
+    println!(rt;
+        "asked in strip 2, +1 is at home in strip {}, {} border away",
+        home.strip, home.crossed
+    )?;
     sheet.merge(merged);
     let answer = yes_or_no(equal(merged, table) && equal(sheet, table));
     println!(rt; "merged into another table, the charts are equal: {answer}")?;

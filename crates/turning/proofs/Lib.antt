@@ -1,4 +1,5 @@
 pub mod Names
 pub mod Listed
 pub mod Tests
+pub mod Pairs
 pub mod Worded

@@ -1,38 +1,26 @@
 // What the tests and the counts of a turning say in the words of the subject. Each function's contract is one theorem of specs/Words.antt; none does anything.
 ghost use Rattle.turning.specs.Words.{TestsTell, PieceIs, CountsAre, LoopsListed, FlatListed, SideTwice};
 
-pub fn tests_tell_stands() -> u8
+pub fn tests_tell_stands()
     ensures { TestsTell }
-{
-    0
-}
+{}
 
-pub fn piece_is_stands() -> u8
+pub fn piece_is_stands()
     ensures { PieceIs }
-{
-    0
-}
+{}
 
-pub fn counts_are_stands() -> u8
+pub fn counts_are_stands()
     ensures { CountsAre }
-{
-    0
-}
+{}
 
-pub fn loops_listed_stands() -> u8
+pub fn loops_listed_stands()
     ensures { LoopsListed }
-{
-    0
-}
+{}
 
-pub fn flat_listed_stands() -> u8
+pub fn flat_listed_stands()
     ensures { FlatListed }
-{
-    0
-}
+{}
 
-pub fn side_twice_stands() -> u8
+pub fn side_twice_stands()
     ensures { SideTwice }
-{
-    0
-}
+{}

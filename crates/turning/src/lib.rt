@@ -6,6 +6,7 @@ ghost use Rattle.turning.specs.Limits.{max_edge};
 ghost use Rattle.turning.specs.Turn.{Turn, Lawful, side};
 ghost use Rattle.turning.specs.Sides.{side_lawful};
 
+pub mod edges;
 pub mod laws;
 pub mod limits;
 pub mod refusal;

@@ -3,7 +3,7 @@ ghost use Rattle.std.specs.Prelude.{◌≡◌, ◌+◌, ◌*◌, ◌≤◌, true
 ghost use Rattle.std.specs.List.{flat_map};
 ghost use Rattle.turning.specs.Limits.{max_edge, line_for};
 ghost use Rattle.flat.specs.Orbits.{◌∈◌, Distinct};
-ghost use Rattle.chart.specs.Linework.{lines_of};
+ghost use Rattle.chart.specs.Bounds.{lines};
 ghost use Rattle.search.specs.Marks.{Within};
 ghost use Rattle.writing.specs.Written.{u16_bytes, i16_bytes, i32_bytes, names_in, follower_slot, start_of, points_in, strip_bytes};
 ghost use Rattle.writing.specs.Gathers.{Slotted};
@@ -25,7 +25,7 @@ type Slots = [u16; MARK_BYTES];
 
 // The point where a halfedge starts, or the origin where it starts nowhere.
 fn start_of<C: Chart>(chart: &C, h: i16) -> Point
-    ensures { result ≡ start_of (lines_of C.Turning.turn C.Chart.points chart.now) h }
+    ensures { result ≡ start_of (lines C.Chart chart.now) h }
 {
     chart.point(h).unwrap_or(ORIGIN)
 }
@@ -44,9 +44,9 @@ fn note_slots(names: &[i16], slots: &mut Slots)
 
 // The slot that follows that of h, or none where h starts in another strip.
 fn follower_slot<C: Chart>(chart: &C, borders: &Borders, strip: u16, h: i16, slots: &Slots) -> u16
-    requires slotted { Slotted max_edge (names_in max_edge borders.now.items (lines_of C.Turning.turn C.Chart.points chart.now) strip) slots.now }
+    requires slotted { Slotted max_edge (names_in max_edge borders.now.items (lines C.Chart chart.now) strip) slots.now }
     requires held { (C.Turning.turn chart.now).held h ≡ true }
-    ensures { result ≡ follower_slot max_edge borders.now.items (lines_of C.Turning.turn C.Chart.points chart.now) strip h }
+    ensures { result ≡ follower_slot max_edge borders.now.items (lines C.Chart chart.now) strip h }
 {
     chart.placed();
     if !starts_in(chart, borders, strip, h) {
@@ -80,18 +80,18 @@ fn write_followers<C: Chart>(
     slots: &Slots,
 )
     requires long { length part.old ≡ 2 * length names.now }
-    requires names { names.now ≡ names_in max_edge borders.now.items (lines_of C.Turning.turn C.Chart.points chart.now) strip }
+    requires names { names.now ≡ names_in max_edge borders.now.items (lines C.Chart chart.now) strip }
     requires slots { Slotted max_edge names.now slots.now }
-    ensures { part.new ≡ flat_map (λ h. u16_bytes (follower_slot max_edge borders.now.items (lines_of C.Turning.turn C.Chart.points chart.now) strip h)) names.now }
+    ensures { part.new ≡ flat_map (λ h. u16_bytes (follower_slot max_edge borders.now.items (lines C.Chart chart.now) strip h)) names.now }
 {
     write_each(
         part,
         names,
         2,
         |h: i16|
-            requires slotted { Slotted max_edge (names_in max_edge borders.now.items (lines_of C.Turning.turn C.Chart.points chart.now) strip) slots.now }
+            requires slotted { Slotted max_edge (names_in max_edge borders.now.items (lines C.Chart chart.now) strip) slots.now }
             requires held { (C.Turning.turn chart.now).held h ≡ true }
-            ensures { result ≡ u16_bytes (follower_slot max_edge borders.entry.now.items (lines_of C.Turning.turn C.Chart.points chart.entry.now) strip h) }
+            ensures { result ≡ u16_bytes (follower_slot max_edge borders.entry.now.items (lines C.Chart chart.entry.now) strip h) }
         { follower_slot(chart, borders, strip, h, slots).to_le_bytes() },
     );
 }
@@ -105,11 +105,11 @@ fn write_arrays<C: Chart>(
     names: &[i16],
     firsts: &[i16],
 )
-    requires names { names.now ≡ names_in max_edge borders.now.items (lines_of C.Turning.turn C.Chart.points chart.now) strip }
-    requires firsts { map (start_of (lines_of C.Turning.turn C.Chart.points chart.now)) firsts.now ≡ points_in max_edge borders.now.items (lines_of C.Turning.turn C.Chart.points chart.now) strip }
+    requires names { names.now ≡ names_in max_edge borders.now.items (lines C.Chart chart.now) strip }
+    requires firsts { map (start_of (lines C.Chart chart.now)) firsts.now ≡ points_in max_edge borders.now.items (lines C.Chart chart.now) strip }
     requires few { length names.now ≤ line_for max_edge }
     requires long { length part.old ≡ 4 * length names.now + 8 * length firsts.now }
-    ensures { part.new ≡ strip_bytes max_edge borders.now.items (lines_of C.Turning.turn C.Chart.points chart.now) strip }
+    ensures { part.new ≡ strip_bytes max_edge borders.now.items (lines C.Chart chart.now) strip }
 {
     let mut slots: Slots = [0; MARK_BYTES];
     note_slots(names, &mut slots);
@@ -131,7 +131,7 @@ fn write_arrays<C: Chart>(
         firsts,
         4,
         |h: i16|
-            ensures { result ≡ i32_bytes (start_of (lines_of C.Turning.turn C.Chart.points chart.entry.now) h).x }
+            ensures { result ≡ i32_bytes (start_of (lines C.Chart chart.entry.now) h).x }
         { start_of(chart, h).x.to_le_bytes() },
     );
     write_each(
@@ -139,15 +139,15 @@ fn write_arrays<C: Chart>(
         firsts,
         4,
         |h: i16|
-            ensures { result ≡ i32_bytes (start_of (lines_of C.Turning.turn C.Chart.points chart.entry.now) h).y }
+            ensures { result ≡ i32_bytes (start_of (lines C.Chart chart.entry.now) h).y }
         { start_of(chart, h).y.to_le_bytes() },
     );
 }
 
 // Writes the arrays of one strip.
 pub(crate) fn write_strip<C: Chart>(part: &mut [u8], chart: &C, borders: &Borders, strip: u16)
-    requires { length part.old ≡ length (strip_bytes max_edge borders.now.items (lines_of C.Turning.turn C.Chart.points chart.now) strip) }
-    ensures { part.new ≡ strip_bytes max_edge borders.now.items (lines_of C.Turning.turn C.Chart.points chart.now) strip }
+    requires { length part.old ≡ length (strip_bytes max_edge borders.now.items (lines C.Chart chart.now) strip) }
+    ensures { part.new ≡ strip_bytes max_edge borders.now.items (lines C.Chart chart.now) strip }
 {
     let mut names = Names::new();
     let mut firsts = Names::new();

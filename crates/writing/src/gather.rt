@@ -1,7 +1,7 @@
 // What one strip has: the names of its slots, and its vertices.
 ghost use Rattle.std.specs.Prelude.{◌≡◌, ◌≤◌, [], map, length, pos};
 ghost use Rattle.turning.specs.Limits.{max_edge, line_for};
-ghost use Rattle.chart.specs.Linework.{lines_of};
+ghost use Rattle.chart.specs.Bounds.{lines};
 ghost use Rattle.search.specs.Marks.{Clean};
 ghost use Rattle.strips.specs.Borders.{runs_through};
 ghost use Rattle.writing.specs.Written.{names_in, points_in, starts_in, start_of};
@@ -23,7 +23,7 @@ pub(crate) type Names = ArrayVec<i16, LINE_NAMES>;
 
 // Does the edge run through the strip? Its strips are named as where its slots are counted: one function for both would answer two strips or none, which each would take apart again.
 fn runs_through<C: Chart>(chart: &C, borders: &Borders, strip: u16, edge: u16) -> bool
-    ensures { result ≡ runs_through borders.now.items (lines_of C.Turning.turn C.Chart.points chart.now) strip (pos edge) }
+    ensures { result ≡ runs_through borders.now.items (lines C.Chart chart.now) strip (pos edge) }
 {
     if !holds_edge(chart, edge) {
         return false;
@@ -35,7 +35,7 @@ fn runs_through<C: Chart>(chart: &C, borders: &Borders, strip: u16, edge: u16) -
 
 // Does the halfedge start in the strip?
 pub(crate) fn starts_in<C: Chart>(chart: &C, borders: &Borders, strip: u16, h: i16) -> bool
-    ensures { result ≡ starts_in borders.now.items (lines_of C.Turning.turn C.Chart.points chart.now) strip h }
+    ensures { result ≡ starts_in borders.now.items (lines C.Chart chart.now) strip h }
 {
     strip_at(borders, chart.point(h)) == strip
 }
@@ -43,7 +43,7 @@ pub(crate) fn starts_in<C: Chart>(chart: &C, borders: &Borders, strip: u16, h: i
 // Puts the names of the strip into an empty list.
 fn collect_names<C: Chart>(chart: &C, borders: &Borders, strip: u16, names: &mut Names)
     requires { names.old.items ≡ [] }
-    ensures { names.new.items ≡ names_in max_edge borders.now.items (lines_of C.Turning.turn C.Chart.points chart.now) strip }
+    ensures { names.new.items ≡ names_in max_edge borders.now.items (lines C.Chart chart.now) strip }
 {
     for e in 1..=MAX_EDGE {
         if runs_through(chart, borders, strip, e) {
@@ -63,11 +63,11 @@ fn collect_firsts<C: Chart>(
     marks: &mut Marks,
     firsts: &mut Names,
 )
-    requires names { names.now ≡ names_in max_edge borders.now.items (lines_of C.Turning.turn C.Chart.points chart.now) strip }
+    requires names { names.now ≡ names_in max_edge borders.now.items (lines C.Chart chart.now) strip }
     requires few { length names.now ≤ line_for max_edge }
     requires marks { Clean marks.old }
     requires empty { firsts.old.items ≡ [] }
-    ensures { map (start_of (lines_of C.Turning.turn C.Chart.points chart.now)) firsts.new.items ≡ points_in max_edge borders.now.items (lines_of C.Turning.turn C.Chart.points chart.now) strip }
+    ensures { map (start_of (lines C.Chart chart.now)) firsts.new.items ≡ points_in max_edge borders.now.items (lines C.Chart chart.now) strip }
 {
     chart.placed();
     for &h in names {
@@ -88,7 +88,7 @@ pub(crate) fn gather<C: Chart>(
 )
     requires names { names.old.items ≡ [] }
     requires firsts { firsts.old.items ≡ [] }
-    ensures { Gathered max_edge borders.now.items (lines_of C.Turning.turn C.Chart.points chart.now) strip names.new.items firsts.new.items }
+    ensures { Gathered max_edge borders.now.items (lines C.Chart chart.now) strip names.new.items firsts.new.items }
 {
     let mut marks = [0; MARK_BYTES];
     collect_names(chart, borders, strip, names);
@@ -97,7 +97,7 @@ pub(crate) fn gather<C: Chart>(
 
 // How many vertices and slots the strip has.
 pub(crate) fn measure<C: Chart>(chart: &C, borders: &Borders, strip: u16) -> Sizes
-    ensures { result ≡ size_of max_edge borders.now.items (lines_of C.Turning.turn C.Chart.points chart.now) strip }
+    ensures { result ≡ size_of max_edge borders.now.items (lines C.Chart chart.now) strip }
 {
     let mut names = Names::new();
     let mut firsts = Names::new();

@@ -4,7 +4,7 @@ ghost use Rattle.std.specs.List.{flat_map};
 ghost use Rattle.turning.specs.Limits.{max_edge, max_strips};
 ghost use Rattle.turning.specs.Refusals.{asked};
 ghost use Rattle.turning.specs.declared.refusal.Refusal.TheVariants.{ShortOut};
-ghost use Rattle.chart.specs.Linework.{lines_of};
+ghost use Rattle.chart.specs.Bounds.{lines};
 ghost use Rattle.halfedges.specs.View.{seen};
 ghost use Rattle.halfedges.specs.Rows.{lines_in};
 ghost use Rattle.strips.specs.Borders.{strip_count};
@@ -29,8 +29,8 @@ type AllSizes = ArrayVec<Sizes, MAX_STRIPS>;
 // Puts the sizes of all strips into an empty list; answers how many bytes the strips take.
 fn measure_all<C: Chart>(chart: &C, borders: &Borders, sizes: &mut AllSizes) -> usize
     requires { sizes.old.items ≡ [] }
-    ensures sizes { sizes.new.items ≡ all_sizes max_edge borders.now.items (lines_of C.Turning.turn C.Chart.points chart.now) }
-    ensures long { result ≡ length (body_bytes max_edge borders.now.items (lines_of C.Turning.turn C.Chart.points chart.now)) }
+    ensures sizes { sizes.new.items ≡ all_sizes max_edge borders.now.items (lines C.Chart chart.now) }
+    ensures long { result ≡ length (body_bytes max_edge borders.now.items (lines C.Chart chart.now)) }
     ensures few { result ≤ 2 ^ 25 }
 {
     let mut total = 0;
@@ -91,10 +91,10 @@ fn write_head(part: &mut [u8], borders: &Borders, sizes: &[Sizes])
 
 // Writes the strips, each over its own part.
 fn write_strips<C: Chart>(part: &mut [u8], chart: &C, borders: &Borders, sizes: &[Sizes])
-    requires sizes { sizes.now ≡ all_sizes max_edge borders.now.items (lines_of C.Turning.turn C.Chart.points chart.now) }
+    requires sizes { sizes.now ≡ all_sizes max_edge borders.now.items (lines C.Chart chart.now) }
     requires few { length sizes.now ≤ max_strips }
-    requires long { length part.old ≡ length (body_bytes max_edge borders.now.items (lines_of C.Turning.turn C.Chart.points chart.now)) }
-    ensures { part.new ≡ body_bytes max_edge borders.now.items (lines_of C.Turning.turn C.Chart.points chart.now) }
+    requires long { length part.old ≡ length (body_bytes max_edge borders.now.items (lines C.Chart chart.now)) }
+    ensures { part.new ≡ body_bytes max_edge borders.now.items (lines C.Chart chart.now) }
 {
     let mut at = 0;
     for (j, own) in sizes.iter().enumerate() {
@@ -106,8 +106,8 @@ fn write_strips<C: Chart>(part: &mut [u8], chart: &C, borders: &Borders, sizes: 
 
 // Writes any chart, cut at the borders.
 fn write_chart<C: Chart>(chart: &C, borders: &Borders, out: &mut [u8]) -> Result<usize, Refusal>
-    ensures answer { result ≡ asked ((nat_le (length (written max_edge borders.now.items (lines_of C.Turning.turn C.Chart.points chart.now))) (length out.old), ShortOut) ∷ []) (length (written max_edge borders.now.items (lines_of C.Turning.turn C.Chart.points chart.now))) }
-    ensures bytes { out.new ≡ laid_over (written max_edge borders.now.items (lines_of C.Turning.turn C.Chart.points chart.now)) out.old }
+    ensures answer { result ≡ asked ((nat_le (length (written max_edge borders.now.items (lines C.Chart chart.now))) (length out.old), ShortOut) ∷ []) (length (written max_edge borders.now.items (lines C.Chart chart.now))) }
+    ensures bytes { out.new ≡ laid_over (written max_edge borders.now.items (lines C.Chart chart.now)) out.old }
 {
     let mut sizes = AllSizes::new();
     let body = measure_all(chart, borders, &mut sizes);

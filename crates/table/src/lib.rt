@@ -17,8 +17,8 @@ use chart::{Chart, Store};
 use halfedges::edges::{Span, cleave_edge, hang_edge, lift_edge};
 use halfedges::halfedge::{Halfedge, Rows};
 use halfedges::slots;
-use turning::edges::count_edges;
 use turning::Turning;
+use turning::edges::count_edges;
 use turning::limits::SLOTS;
 use turning::refusal::Refusal;
 

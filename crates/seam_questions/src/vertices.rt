@@ -31,7 +31,7 @@ pub fn line_in(s: Strip<'_>, i: u16) -> usize
 }
 
 // The vertex at a place of the line.
-pub fn vertex_at(line: &[i16; LINE_NAMES], place: usize) -> Option<u16>
+pub fn vertex_at(line: &[i16], place: usize) -> Option<u16>
     requires { place < length line.now }
     ensures { result ≡ vertex_at line.now place }
 {

@@ -9,18 +9,18 @@ ghost use Rattle.told.specs.Tells.{borders_in};
 use crate::by_name::Told;
 use crate::entering::enter;
 use crate::entry::Entries;
+use arrayvec::ArrayVec;
 use file::le::read_u16;
 use file::parts::{File, JudgedFile, border_at};
 use search::marks::Line;
-use strips::borders::{self, Borders};
 use strips::sheet::Sheet;
-use turning::limits::MARK_BYTES;
+use turning::limits::{MARK_BYTES, MAX_BORDERS};
 
 // The borders that a file tells, from west to east.
-fn read_borders(file: File<'_>) -> Borders
+fn read_borders(file: File<'_>) -> ArrayVec<i32, MAX_BORDERS>
     ensures { result.items ≡ borders_in file.entry.bytes.now }
 {
-    let mut borders = borders::none();
+    let mut borders = ArrayVec::new();
     for k in 0..file.count - 1 {
         borders.push(border_at(file.bytes, file.count, k));
     }

@@ -1,14 +1,14 @@
 -- Borders as they are checked, and what their strips are. Assumes nothing.
 use Rattle.std.specs.Prelude.{◌≡◌, ℕ, ◌-◌, ◌≤◌, true, ◌⊎◌, ◌↔◌, List, [], ◌∷◌, ℤ, pos, ◌≤ℤ◌, ◌<ℤ◌, Ok, Err, Result, nat_le, slice_index_or}
-use Rattle.arrayvec.specs.ArrayVec.{ArrayVec}
 use Rattle.turning.specs.Limits.{max_strips}
 use Rattle.turning.specs.Refusals.{Questions}
 use Rattle.turning.specs.declared.refusal.Refusal.{Refusal}
 use Rattle.turning.specs.declared.refusal.Refusal.TheVariants.{BadBorders, TooManyStrips}
 use Rattle.strips.specs.Borders.{rising, strip_count, strip_of}
+use Rattle.strips.specs.Places.{BorderList}
 
 -- an answer with the list of the borders in their place
-abbrev pub listed : Result (ArrayVec ℤ) Refusal → Result (List ℤ) Refusal
+abbrev pub listed : Result BorderList Refusal → Result (List ℤ) Refusal
 listed (Ok b) = Ok b.items
 listed (Err e) = Err e
 

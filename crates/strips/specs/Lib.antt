@@ -4,3 +4,4 @@ pub mod Sheets
 pub mod Recuts
 pub mod Seams
 pub mod Answers
+pub mod Places

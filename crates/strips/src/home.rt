@@ -7,7 +7,7 @@ ghost use Rattle.halfedges.specs.Rows.{lines_in};
 ghost use Rattle.strips.specs.Borders.{apart, strip_count};
 ghost use Rattle.strips.specs.Answers.{told_home};
 
-use crate::borders::{Borders, copied, strip_count, strip_of};
+use crate::borders::{Borders, strip_count, strip_of};
 use crate::sheet::Sheet;
 use chart::Chart;
 use turning::Turning;
@@ -45,7 +45,7 @@ impl<'a> Sheet<'a> {
     pub fn borders(&self) -> Borders
         ensures { result ≡ self.now.borders }
     {
-        copied(&self.borders)
+        self.borders
     }
 
     // The home of h, asked in a strip that has a slot of h.

@@ -8,7 +8,7 @@ ghost use Rattle.strips.specs.Borders.{slots_taken};
 ghost use Rattle.strips.specs.Seams.{with_border, without_border, is_border, Cuts, Knits};
 ghost use Rattle.strips.specs.Sheets.{Kept, room_of, sheet_of};
 
-use crate::borders::{Borders, copied, strip_count, strip_of};
+use crate::borders::{Borders, List, append, of_list, strip_count, strip_of};
 use crate::recut::recut;
 use crate::sheet::Sheet;
 use crate::taken::slots_needed;
@@ -21,26 +21,32 @@ use turning::refusal::Refusal;
 fn has_border(borders: &Borders, x: i32) -> bool
     ensures { result ≡ is_border x borders.now.items }
 {
-    borders.contains(&x)
+    borders.as_slice().contains(&x)
 }
 
-// The borders with x put in.
+// The borders with x put in, part by part: `insert` would move those east of x by `memmove`, which an archive for C needs from outside.
 fn put_in(borders: &Borders, x: i32) -> Borders
     requires { length borders.now.items < MAX_BORDERS }
     ensures { result.items ≡ with_border x borders.now.items }
 {
-    let mut more = copied(borders);
-    more.insert(strip_of(borders, x) as usize - 1, x);
-    more
+    let (west, east) = borders
+        .as_slice()
+        .split_at(strip_of(borders, x) as usize - 1);
+    let mut more = List::new();
+    append(&mut more, west);
+    more.push(x);
+    append(&mut more, east);
+    of_list(more.as_slice())
 }
 
 // The borders with x taken out.
 fn take_out(borders: &Borders, x: i32) -> Borders
     ensures { result.items ≡ without_border x borders.now.items }
 {
-    let mut fewer = copied(borders);
+    let mut fewer = List::new();
+    append(&mut fewer, borders.as_slice());
     fewer.retain(|b| *b != x);
-    fewer
+    of_list(fewer.as_slice())
 }
 
 // Puts the rows of a memory that is long enough into the strips of the borders; a shorter one has none.

@@ -111,7 +111,7 @@ fn write_chart<C: Chart>(chart: &C, borders: &Borders, out: &mut [u8]) -> Result
 {
     let mut sizes = AllSizes::new();
     let body = measure_all(chart, borders, &mut sizes);
-    let head = 2 + 4 * sizes.len() + 4 * borders.len();
+    let head = 2 + 4 * sizes.len() + 4 * borders.as_slice().len();
     let end = head + body;
     if out.len() < end {
         return Err(Refusal::ShortOut);

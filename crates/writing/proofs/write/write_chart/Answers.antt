@@ -21,7 +21,7 @@ returns-then-out-end g c =
     let l = lines_of g.C.Turning.turn g.C.Chart.points c.args.chart.now in
     let bs = c.args.borders.now.items in
     let m = c.measure_all-body.ensures in
-    let whole = whole_is bs l c.measure_all-body.new.sizes.items c.len.result c.len-2.result c.measure_all-body.result m.sizes c.len.ensures.value c.len-2.ensures.value m.long in
+    let whole = whole_is bs l c.measure_all-body.new.sizes.items c.len.result (length c.as_slice.result.now) c.measure_all-body.result m.sizes c.len.ensures.value (ap length c.as_slice.ensures.value) m.long in
     let short : length c.args.out.now < length (written max_edge bs l) = omega (arith, c.if-out-end.true) in
     let no = lt-leb (length (written max_edge bs l)) (length c.args.out.now) short in
     record { answer = sym (cond-false _ _ _ no); bytes = sym (cond-false _ _ _ no) }
@@ -32,17 +32,17 @@ returns g c =
     let bs = c.args.borders.now.items in
     let out = c.args.out.now in
     let m = c.measure_all-body.ensures in
-    let from = 2 + 4 * c.len.result + 4 * c.len-2.result in
+    let from = 2 + 4 * c.len.result + 4 * (length c.as_slice.result.now) in
     let end = from + c.measure_all-body.result in
     let whole : end ≡ length (written max_edge bs l) =
-    whole_is bs l c.measure_all-body.new.sizes.items c.len.result c.len-2.result c.measure_all-body.result m.sizes c.len.ensures.value c.len-2.ensures.value m.long in
+    whole_is bs l c.measure_all-body.new.sizes.items c.len.result (length c.as_slice.result.now) c.measure_all-body.result m.sizes c.len.ensures.value (ap length c.as_slice.ensures.value) m.long in
     let fits : length (written max_edge bs l) ≤ length out = omega (arith, c.if-out-end.false) in
     let yes = le-leb (length (written max_edge bs l)) (length out) fits in
-    let own = c.as_slice.ensures.value ∙ m.sizes in
+    let own = c.as_slice-2.ensures.value ∙ m.sizes in
     let head : c.write_head.new.part ≡ head_bytes bs (all_sizes max_edge bs l) = c.write_head.ensures ∙ ap (head_bytes bs) own in
     let body : c.write_strips.new.part ≡ body_bytes max_edge bs l = c.write_strips.ensures in
     let many : c.len.result ≡ length (all_sizes max_edge bs l) = c.len.ensures.value ∙ ap length m.sizes in
-    let hl : length c.write_head.new.part ≡ from = ap length head ∙ head_long bs (all_sizes max_edge bs l) ∙ sym (ap₂ (λ s b. 2 + 4 * s + 4 * b) many c.len-2.ensures.value) in
+    let hl : length c.write_head.new.part ≡ from = ap length head ∙ head_long bs (all_sizes max_edge bs l) ∙ sym (ap₂ (λ s b. 2 + 4 * s + 4 * b) many (ap length c.as_slice.ensures.value)) in
     let bl : from + length c.write_strips.new.part ≡ end = ap (λ k. from + k) (ap length body ∙ sym m.long) in
     record {
       answer = ap Ok whole ∙ sym (cond-true _ _ _ yes);

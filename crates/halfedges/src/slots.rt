@@ -110,7 +110,8 @@ pub fn count_used(rows: &[Halfedge]) -> usize
     requires { slots ≤ length rows.now }
     ensures { result ≡ used slots (seen rows.now) }
 {
-    rows[..SLOTS].iter().filter(|r| r.name != 0).count()
+    // A sum, since a test of each record in a filter would branch, at a cost that a join feels.
+    rows[..SLOTS].iter().map(|r| usize::from(r.name != 0)).sum()
 }
 
 // Frees every record and every entry.

@@ -39,8 +39,9 @@ impl<'a> Sheet<'a> {
         ensures length { length result.rows.at.now ≡ length memory.old }
         ensures left { length memory.old < slots → result.rows.at.now ≡ memory.old }
     {
+        let rows = Rows::new(memory);
         Sheet {
-            rows: Rows::new(memory),
+            rows,
             borders: borders::none(),
         }
     }

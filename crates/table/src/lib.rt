@@ -41,9 +41,8 @@ impl<'a> Table<'a> {
         ensures length { length result.rows.at.now ≡ length memory.old }
         ensures left { length memory.old < slots → result.rows.at.now ≡ memory.old }
     {
-        Table {
-            rows: Rows::new(memory),
-        }
+        let rows = Rows::new(memory);
+        Table { rows }
     }
 
     // Has the memory that the table was given enough records?

@@ -11,15 +11,15 @@ use Rattle.table.proofs.Table.new.Goals as goal
 
 pub invariant_of-result : goal.invariant_of-result
 invariant_of-result c =
-    let rs = c.new.result.at.now in
+    let rs = c.new-rows.result.at.now in
     let kept : Kept rs = λ long.
-    let blank = c.new.ensures.freed (omega (arith, c.new.ensures.length, long)) in
+    let blank = c.new-rows.ensures.freed (omega (arith, c.new-rows.ensures.length, long)) in
     record { core = blank_core rs blank long; room = blank_used rs blank long ∙ sym (ap (λ n. 2 * n) (blank_edges rs blank long)) } in
     record { ok = ∣ kept ∣₁ }
 
 pub returns-clause-empty : goal.returns-clause-empty
-returns-clause-empty c = go (leb slots (length c.new.result.at.now)) refl
+returns-clause-empty c = go (leb slots (length c.new-rows.result.at.now)) refl
   where
-    go : (b : Bool) → leb slots (length c.new.result.at.now) ≡ b → lines_in (seen c.new.result.at.now) ≡ no_lines
-    go true e = let long = leb-true _ _ e in blank_lines c.new.result.at.now (c.new.ensures.freed (omega (arith, c.new.ensures.length, long))) long
-    go false e = short_lines max_edge slots c.new.result.at.now e
+    go : (b : Bool) → leb slots (length c.new-rows.result.at.now) ≡ b → lines_in (seen c.new-rows.result.at.now) ≡ no_lines
+    go true e = let long = leb-true _ _ e in blank_lines c.new-rows.result.at.now (c.new-rows.ensures.freed (omega (arith, c.new-rows.ensures.length, long))) long
+    go false e = short_lines max_edge slots c.new-rows.result.at.now e

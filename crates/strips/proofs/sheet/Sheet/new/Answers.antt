@@ -5,10 +5,10 @@ use Rattle.strips.proofs.sheet.Sheet.new.Goals as goal
 
 pub invariant_of-result : goal.invariant_of-result
 invariant_of-result c =
-    let e = c.new.ensures in
-    record { ok = ∣ freed_kept _ c.new.result.at.now e.length e.freed c.none.result.items ∣₁; rises = ap rising c.none.ensures }
+    let e = c.new-rows.ensures in
+    record { ok = ∣ freed_kept _ c.new-rows.result.at.now e.length e.freed c.none.result.items ∣₁; rises = ap rising c.none.ensures }
 
 pub returns-clause-empty : goal.returns-clause-empty
 returns-clause-empty c =
-    let e = c.new.ensures in
-    freed_lines _ c.new.result.at.now e.length e.freed
+    let e = c.new-rows.ensures in
+    freed_lines _ c.new-rows.result.at.now e.length e.freed

@@ -3,7 +3,7 @@
 use Rattle.std.proofs.Common.{◌≡◌, ℕ, zero, suc, ◌+◌, ◌*◌, ◌<◌, ◌≤◌, true, false, T, ◌≢◌, ◌⊎◌, ◌↔◌, List, [], ◌∷◌, length, get_or, set, ℤ, pos, neg_ℤ, sym, refl, ap, ◌∙◌, subst, inl, inr, add-one, arith, get_or-set_other, get_or-set_same}
 use Rattle.std.proofs.lemmas.List.{length-set}
 use Rattle.std.proofs.lemmas.Bool.{cases_eq, both_ways}
-use Rattle.flat.specs.Orbits.{◌∈◌, Distinct, Reach, stay, walk}
+use Rattle.flat.specs.Orbits.{◌∈◌, Distinct, Reach, ends, stay, walk}
 use Rattle.flat.proofs.Basics.{pigeon, T_true, T_same}
 use Rattle.flat.proofs.Walks.{follow, one}
 use Rattle.turning.specs.Turn.{Turn, Lawful}
@@ -266,6 +266,19 @@ module _ (n : ℕ) (t : Turn) where
         back : T (marked n m₀ z) ⊎ Reach (piece_steps t) h z → T (marked n m z)
         back (inl p) = (f.marks z k).1 (inl p)
         back (inr p) = along eh first p
+
+    -- what spreads from closed marks is closed
+    pub spreads_closed : (m m' : List ℕ) → Closed n t (piece_steps t) m → Spreads n t (piece_steps t) h m m' → Closed n t (piece_steps t) m'
+    spreads_closed m m' c s z y k p on = (s y (held on)).1 (go ((s z k).0 p))
+      where
+        held : y ∈ ends (piece_steps t) z → t.held y ≡ true
+        held (inl e) = subst (λ w. t.held w ≡ true) (sym e) (law.ahead z k)
+        held (inr (inl e)) = subst (λ w. t.held w ≡ true) (sym e) (law.closed z k)
+        held (inr (inr e)) = absurd e
+
+        go : T (marked n m z) ⊎ Reach (piece_steps t) h z → T (marked n m y) ⊎ Reach (piece_steps t) h y
+        go (inl q) = inl (c z y k q on)
+        go (inr q) = inr (follow q (one on))
 
     -- from clean marks, those marked are those of the piece of h
     pub clean_marks : (m m' : List ℕ) (k : ℤ) → t.held k ≡ true → Clean m → Spreads n t (piece_steps t) h m m' → marked n m' k ≡ same_piece n t h k

@@ -1,5 +1,5 @@
 -- Where in a list of distinct names each name stands, noted name by name. Assumes nothing.
-use Rattle.std.proofs.Common.{◌≡◌, ℕ, zero, suc, ◌+◌, ◌*◌, ◌<◌, ◌≤◌, List, [], ◌∷◌, length, get_or, set, ℤ, pos, sym, refl, ap, ◌∙◌, subst, inl, inr, ⊎_elim, arith}
+use Rattle.std.proofs.Common.{◌≡◌, ℕ, zero, suc, ◌+◌, ◌*◌, ◌<◌, ◌≤◌, List, [], ◌∷◌, length, get_or, drop, set, ℤ, pos, sym, refl, ap, ◌∙◌, subst, inl, inr, ⊎_elim, arith}
 use Rattle.std.proofs.lemmas.List.{get_or-set_same, get_or-set_other}
 use Rattle.std.proofs.lemmas.Bool.{cases_lt}
 use Rattle.flat.specs.Orbits.{◌∈◌, Distinct}
@@ -13,6 +13,11 @@ pub element_in : (names : List ℤ) (k : ℕ) (d : ℤ) → k < length names →
 element_in [] k d below = absurd (omega arith)
 element_in (x ∷ xs) zero d below = inl refl
 element_in (x ∷ xs) (suc k) d below = inr (element_in xs k d (omega arith))
+
+pub dropped_in : (names : List ℤ) (k : ℕ) (h : ℤ) → h ∈ drop k names → h ∈ names
+dropped_in names zero h m = m
+dropped_in [] (suc k) h m = m
+dropped_in (x ∷ xs) (suc k) h m = inr (dropped_in xs k h m)
 
 -- the names below place k are noted
 abbrev pub NotedTo : ℕ → ℕ → List ℤ → List ℕ → Type 0
